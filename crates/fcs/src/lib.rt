@@ -12,7 +12,11 @@ const GENERATOR: u16 = 0x8408;
 fn divide(x: u16) -> u16
     ensures { λ r. ⌜ r ≡ divided x ⌝ }
 {
-    if x % 2 == 1 { (x / 2) ^ GENERATOR } else { x / 2 }
+    if x % 2 == 1 {
+        (x / 2) ^ GENERATOR
+    } else {
+        x / 2
+    }
 }
 
 // An octet into the register.
@@ -20,7 +24,7 @@ fn octet_into(register: u16, octet: u8) -> u16
     ensures { λ r. ⌜ r ≡ octetStep register octet ⌝ }
 {
     let mut x = register ^ (octet as u16);
-    let mut step = 0;
+    let mut step = 0u8;
     while step < 8 {
         x = divide(x);
         step += 1;

@@ -1,0 +1,5 @@
+pub mod Polynomials
+pub mod Registers
+pub mod Receiver
+pub mod Vectors
+pub mod Unique

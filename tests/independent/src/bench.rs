@@ -1,0 +1,256 @@
+//! The bench: checks are put to the probe one by one, differences are
+//! reported, and the outcomes met are counted.
+
+use crate::probe::{Ended, Probe};
+use crate::random::Random;
+use crate::wire;
+use std::collections::BTreeMap;
+use std::fmt;
+
+/// How often each required outcome has to be met in a run.
+const OFTEN_ENOUGH: usize = 100;
+
+/// An operation's answer number: 0 for success, otherwise the refusal.
+#[derive(Clone, Copy, Debug, PartialEq, Eq, PartialOrd, Ord)]
+pub struct Outcome {
+    pub operation: &'static str,
+    pub number: u8,
+}
+
+impl fmt::Display for Outcome {
+    fn fmt(&self, f: &mut fmt::Formatter) -> fmt::Result {
+        match self.number {
+            0 => write!(f, "{} success", self.operation),
+            number => write!(f, "{} refusal {number}", self.operation),
+        }
+    }
+}
+
+/// One request with the reply it must get.
+pub struct Case {
+    pub request: Vec<u8>,
+    pub expected: Vec<u8>,
+    pub outcome: Outcome,
+    due: Option<u8>,
+}
+
+impl Case {
+    pub fn new(request: Vec<u8>, expected: Vec<u8>, outcome: Outcome) -> Case {
+        Case {
+            request,
+            expected,
+            outcome,
+            due: None,
+        }
+    }
+
+    /// States the answer number that follows from the way the request was
+    /// made. It guards the expected reply itself against a mistake.
+    pub fn due(mut self, number: u8) -> Case {
+        self.due = Some(number);
+        self
+    }
+
+    fn is_as_due(&self) -> bool {
+        self.due.is_none_or(|number| number == self.outcome.number)
+    }
+}
+
+type Work = Box<dyn FnOnce(&mut Bench) -> Result<(), String>>;
+
+/// A named family of requests.
+pub struct Check {
+    name: &'static str,
+    work: Work,
+}
+
+impl Check {
+    pub fn new(
+        name: &'static str,
+        work: impl FnOnce(&mut Bench) -> Result<(), String> + 'static,
+    ) -> Check {
+        Check {
+            name,
+            work: Box::new(work),
+        }
+    }
+
+    /// A check whose requests are all known beforehand.
+    pub fn of_cases(name: &'static str, family: fn(&mut Random) -> Vec<Case>) -> Check {
+        Check::new(name, move |bench| {
+            bench.compare(&family(&mut Random::named(name)))
+        })
+    }
+}
+
+/// The checks of one part of the product, and the outcomes they must meet.
+pub struct Layer {
+    pub checks: Vec<Check>,
+    pub outcomes: Vec<Outcome>,
+}
+
+pub struct Bench {
+    probe: Probe,
+    met: BTreeMap<Outcome, usize>,
+    requests: usize,
+    passed: usize,
+    failed: usize,
+}
+
+impl Bench {
+    pub fn new(probe: Probe) -> Bench {
+        Bench {
+            probe,
+            met: BTreeMap::new(),
+            requests: 0,
+            passed: 0,
+            failed: 0,
+        }
+    }
+
+    /// The probe's replies, one for each request.
+    pub fn ask(&mut self, requests: &[Vec<u8>]) -> Result<Vec<Vec<u8>>, String> {
+        self.requests += requests.len();
+        self.probe.ask(requests)
+    }
+
+    /// All that the probe makes of an input that is no row of whole requests.
+    pub fn converse(&mut self, input: Vec<u8>) -> Result<Ended, String> {
+        self.requests += 1;
+        self.probe.converse(input)
+    }
+
+    /// Puts the cases to the probe; every reply must be the expected one.
+    pub fn compare(&mut self, cases: &[Case]) -> Result<(), String> {
+        for case in cases {
+            *self.met.entry(case.outcome).or_default() += 1;
+        }
+        if let Some(case) = cases.iter().find(|case| !case.is_as_due()) {
+            return Err(format!(
+                "the comparing program itself is wrong: {} where the request was made for {:?}: request {}",
+                case.outcome,
+                case.due,
+                wire::hex(&case.request)
+            ));
+        }
+        let requests: Vec<Vec<u8>> = cases.iter().map(|case| case.request.clone()).collect();
+        let replies = self.ask(&requests)?;
+        let expected: Vec<Vec<u8>> = cases.iter().map(|case| case.expected.clone()).collect();
+        same_replies(&requests, &expected, &replies)
+    }
+
+    /// Runs the checks of all layers, then says whether all outcomes were met.
+    /// True if nothing failed.
+    pub fn run(mut self, layers: Vec<Layer>) -> bool {
+        let mut required = Vec::new();
+        let mut total = 0;
+        for layer in layers {
+            required.extend(layer.outcomes);
+            for check in layer.checks {
+                self.requests = 0;
+                let result = (check.work)(&mut self);
+                total += self.requests;
+                let size = format!(" ({} requests)", self.requests);
+                self.report(check.name, &size, result);
+            }
+        }
+        for (outcome, times) in &self.met {
+            println!("met  {outcome}: {times}");
+        }
+        let result = all_met(&required, &self.met);
+        self.report("every refusal met", "", result);
+        println!("{total} requests in all");
+        println!("{} passed, {} failed", self.passed, self.failed);
+        self.failed == 0
+    }
+
+    fn report(&mut self, name: &str, size: &str, result: Result<(), String>) {
+        match result {
+            Ok(()) => {
+                self.passed += 1;
+                println!("ok   {name}{size}");
+            }
+            Err(reason) => {
+                self.failed += 1;
+                println!("FAIL {name}{size}: {reason}");
+            }
+        }
+    }
+}
+
+/// Compares replies with the expected ones, all three lists in step.
+pub fn same_replies(
+    requests: &[Vec<u8>],
+    expected: &[Vec<u8>],
+    replies: &[Vec<u8>],
+) -> Result<(), String> {
+    let differing: Vec<usize> = (0..requests.len())
+        .filter(|&place| expected[place] != replies[place])
+        .collect();
+    match differing.first() {
+        None => Ok(()),
+        Some(&place) => Err(format!(
+            "{} replies differ, first difference: request {}, expected {}, got {}",
+            differing.len(),
+            wire::hex(&requests[place]),
+            wire::hex(&expected[place]),
+            wire::hex(&replies[place])
+        )),
+    }
+}
+
+fn all_met(required: &[Outcome], met: &BTreeMap<Outcome, usize>) -> Result<(), String> {
+    let missed: Vec<String> = required
+        .iter()
+        .filter(|outcome| met.get(outcome).copied().unwrap_or(0) < OFTEN_ENOUGH)
+        .map(|outcome| outcome.to_string())
+        .collect();
+    if missed.is_empty() {
+        return Ok(());
+    }
+    Err(format!(
+        "met under {OFTEN_ENOUGH} times: {}",
+        missed.join(", ")
+    ))
+}
+
+#[cfg(test)]
+mod tests {
+    use super::*;
+
+    const SUCCESS: Outcome = Outcome {
+        operation: "some operation",
+        number: 0,
+    };
+
+    #[test]
+    fn an_outcome_met_too_seldom_is_named() {
+        let met = BTreeMap::from([(SUCCESS, OFTEN_ENOUGH)]);
+        let refusal = Outcome {
+            number: 4,
+            ..SUCCESS
+        };
+        assert_eq!(all_met(&[SUCCESS], &met), Ok(()));
+        let missed = all_met(&[SUCCESS, refusal], &met).unwrap_err();
+        assert!(missed.ends_with(": some operation refusal 4"));
+    }
+
+    #[test]
+    fn the_first_difference_is_shown() {
+        let requests = [vec![1], vec![2], vec![3]];
+        let expected = [vec![10], vec![20], vec![30]];
+        assert_eq!(same_replies(&requests, &expected, &expected), Ok(()));
+        let replies = [vec![10], vec![21], vec![31]];
+        let shown = same_replies(&requests, &expected, &replies).unwrap_err();
+        assert!(shown.contains("2 replies differ"));
+        assert!(shown.ends_with("request 02, expected 14, got 15"));
+    }
+
+    #[test]
+    fn a_case_knows_whether_it_is_as_due() {
+        let case = || Case::new(vec![], vec![], SUCCESS);
+        assert!(case().is_as_due());
+        assert!(case().due(0).is_as_due());
+        assert!(!case().due(2).is_as_due());
+    }
+}

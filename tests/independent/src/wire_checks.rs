@@ -1,0 +1,85 @@
+//! Checks of the probe's row of requests as such: what is no request gets the
+//! reply FF, what is no whole request gets none.
+
+use crate::bench::{Bench, Case, Check, Layer, Outcome};
+use crate::random::Random;
+use crate::wire;
+
+const NO_REQUEST: u8 = 0xFF;
+
+const MALFORMED: Outcome = Outcome {
+    operation: "malformed request",
+    number: NO_REQUEST,
+};
+
+pub fn layer() -> Layer {
+    Layer {
+        checks: vec![
+            Check::of_cases("requests: empty", empty),
+            Check::of_cases("requests: unknown operation", unknown_operation),
+            Check::new("requests: no input at all", no_input),
+            Check::new("requests: input ends inside a request", ended_inside),
+        ],
+        outcomes: vec![MALFORMED],
+    }
+}
+
+/// The case of a request that must get the reply FF.
+pub fn malformed(request: Vec<u8>) -> Case {
+    Case::new(request, vec![NO_REQUEST], MALFORMED)
+}
+
+/// The well-formed request without its last octets, at every length but 0.
+pub fn cut_short(request: &[u8]) -> Vec<Case> {
+    let lengths = 1..request.len();
+    lengths
+        .map(|length| malformed(request[..length].to_vec()))
+        .collect()
+}
+
+/// The well-formed request with 1 to 40 octets too many.
+pub fn with_octets_left_over(random: &mut Random, request: &[u8]) -> Vec<Case> {
+    let more = |count| malformed([request, &random.octets(count)].concat());
+    (1..=40).map(more).collect()
+}
+
+fn empty(_: &mut Random) -> Vec<Case> {
+    (0..20).map(|_| malformed(Vec::new())).collect()
+}
+
+fn unknown_operation(random: &mut Random) -> Vec<Case> {
+    let operations = std::iter::once(0).chain(7..=255);
+    let request = |operation: u8| {
+        let length = random.pick(&[0, 1, 4, 8, 100]);
+        [vec![operation], random.octets(length)].concat()
+    };
+    operations.map(request).map(malformed).collect()
+}
+
+fn no_input(bench: &mut Bench) -> Result<(), String> {
+    must_write(bench, Vec::new(), &[])
+}
+
+/// Two whole requests, then one that is cut at every place.
+fn ended_inside(bench: &mut Bench) -> Result<(), String> {
+    let whole = wire::joined(&[vec![], vec![0, 1, 2]]);
+    let due = wire::joined(&[vec![NO_REQUEST], vec![NO_REQUEST]]);
+    let last = wire::joined(&[vec![0; 12]]);
+    for length in 1..last.len() {
+        must_write(bench, [&whole, &last[..length]].concat(), &due)?;
+    }
+    Ok(())
+}
+
+fn must_write(bench: &mut Bench, input: Vec<u8>, due: &[u8]) -> Result<(), String> {
+    let given = wire::hex(&input);
+    let ended = bench.converse(input)?;
+    if ended.output == due {
+        return Ok(());
+    }
+    Err(format!(
+        "input {given}, expected output {}, got {}",
+        wire::hex(due),
+        wire::hex(&ended.output)
+    ))
+}
