@@ -239,7 +239,7 @@ impl Receiver {
             return Err(number::BOUNDS);
         }
         let bits = self.content.kept;
-        if bits.len() % 8 != 0 {
+        if !bits.len().is_multiple_of(8) {
             return Err(number::NO_WHOLE_OCTETS);
         }
         let mut octets = packed(&bits);

@@ -2,7 +2,7 @@
 //! replies come from its standard output.
 
 use crate::wire;
-use std::io::{Read, Write};
+use std::io::{self, Read, Write};
 use std::path::PathBuf;
 use std::process::{Child, Command, Stdio};
 use std::sync::mpsc;
@@ -14,6 +14,7 @@ const PATIENCE: Duration = Duration::from_secs(60);
 
 pub struct Probe {
     program: PathBuf,
+    has_hung: bool,
 }
 
 /// What a probe left behind: all it wrote, and how it ended.
@@ -24,11 +25,14 @@ pub struct Ended {
 
 impl Probe {
     pub fn new(program: PathBuf) -> Probe {
-        Probe { program }
+        Probe {
+            program,
+            has_hung: false,
+        }
     }
 
     /// Starts the probe, gives it the requests and takes one reply for each.
-    pub fn ask(&self, requests: &[Vec<u8>]) -> Result<Vec<Vec<u8>>, String> {
+    pub fn ask(&mut self, requests: &[Vec<u8>]) -> Result<Vec<Vec<u8>>, String> {
         let ended = self.converse(wire::joined(requests))?;
         let (replies, left_over) = wire::separated(&ended.output);
         if let Some(unanswered) = requests.get(replies.len()) {
@@ -50,29 +54,35 @@ impl Probe {
 
     /// Starts the probe and gives it the input to its end. Writing has a
     /// thread of its own, since a full pipe would stop both programs.
-    pub fn converse(&self, input: Vec<u8>) -> Result<Ended, String> {
+    pub fn converse(&mut self, input: Vec<u8>) -> Result<Ended, String> {
+        if self.has_hung {
+            return Err("not asked, since the probe has hung before".to_string());
+        }
         let mut child = Command::new(&self.program)
             .stdin(Stdio::piped())
             .stdout(Stdio::piped())
             .spawn()
             .map_err(|error| format!("the probe does not start: {error}"))?;
         let mut to_probe = child.stdin.take().expect("standard input is piped");
-        let writing = thread::spawn(move || {
+        thread::spawn(move || {
             // A probe that stops reading early is noticed by its replies.
             let _ = to_probe.write_all(&input);
         });
-        let output = output_in_time(&mut child);
+        let Some(output) = output_in_time(&mut child) else {
+            self.has_hung = true;
+            let ended = child.kill().and_then(|()| child.wait());
+            ended.map_err(|error| error.to_string())?;
+            return Err("the probe does not end at the end of its input".to_string());
+        };
         let status = child.wait().map_err(|error| error.to_string())?;
-        writing.join().expect("the writing thread does not panic");
-        Ok(Ended {
-            output: output?,
-            well: status.success(),
-        })
+        let output = output.map_err(|error| error.to_string())?;
+        let well = status.success();
+        Ok(Ended { output, well })
     }
 }
 
-/// All that the child writes; a child that takes too long is ended.
-fn output_in_time(child: &mut Child) -> Result<Vec<u8>, String> {
+/// All that the child writes; nothing if it takes too long.
+fn output_in_time(child: &mut Child) -> Option<io::Result<Vec<u8>>> {
     let mut from_probe = child.stdout.take().expect("standard output is piped");
     let (hand_over, receive) = mpsc::channel();
     thread::spawn(move || {
@@ -81,11 +91,5 @@ fn output_in_time(child: &mut Child) -> Result<Vec<u8>, String> {
         // Nobody waits for the output any more once the time is up.
         let _ = hand_over.send(outcome);
     });
-    match receive.recv_timeout(PATIENCE) {
-        Ok(outcome) => outcome.map_err(|error| error.to_string()),
-        Err(_) => {
-            child.kill().map_err(|error| error.to_string())?;
-            Err("the probe does not end at the end of its input".to_string())
-        }
-    }
+    receive.recv_timeout(PATIENCE).ok()
 }

@@ -155,6 +155,8 @@ fn inserted_zeros(content: &[bool]) -> Vec<usize> {
     (5..content.len()).filter(after_five).collect()
 }
 
+/// The six ones break the content, unless they make its first bits one more
+/// opening flag.
 fn zero_to_one(random: &mut Random) -> Vec<Case> {
     let mut cases = Vec::new();
     for length in [1, 2, 3, 5, 9, 17, 64] {
@@ -164,8 +166,9 @@ fn zero_to_one(random: &mut Random) -> Vec<Case> {
             for place in inserted_zeros(&content) {
                 let mut broken = content.clone();
                 broken[place] = true;
-                let bits = between_flags(opening, &broken, closing);
-                cases.push(heard(random, &bits).due(2));
+                let case = heard(random, &between_flags(opening, &broken, closing));
+                let flag_made = broken.starts_with(&flag_bits(1));
+                cases.push(if flag_made { case } else { case.due(2) });
             }
         }
     }

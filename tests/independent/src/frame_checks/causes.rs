@@ -23,7 +23,7 @@ fn bounded(content: &[bool], way: usize) -> (Bits, Option<u8>) {
         4 => between_flags(2, content, 0),
         5 => between_flags(2, content, 4),
         6 => [between_flags(2, content, 1), vec![false]].concat(),
-        7 => between_flags(2, &[&vec![true; 7], content].concat(), 1),
+        7 => between_flags(2, &[&[true; 7], content].concat(), 1),
         _ => between_flags(2, &ones_at_end, 1),
     };
     (bits, if way < 2 { None } else { Some(2) })

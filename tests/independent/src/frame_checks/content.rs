@@ -43,8 +43,8 @@ fn few_bits(random: &mut Random) -> Vec<Case> {
     cases
 }
 
-/// Every row of bits between two flags and one, with and without all of its
-/// inserted zeros.
+/// Every row of bits between two flags and one, whether or not zeros are
+/// missing in it.
 fn all_short(random: &mut Random) -> Vec<Case> {
     let mut cases = Vec::new();
     for count in 1..=10 {

@@ -85,7 +85,8 @@ fn must_be(own: &[u8], stored: &[u8], frame: &StoredFrame) -> Result<(), String>
         return Ok(());
     }
     Err(format!(
-        "the comparing program itself differs from {frame:?}: expected {}, got {}",
+        "the comparing program itself differs from the stored frame of {}: expected {}, got {}",
+        wire::hex(&frame.information),
         wire::hex(stored),
         wire::hex(own)
     ))

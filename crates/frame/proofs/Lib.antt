@@ -1,0 +1,15 @@
+pub mod Transparency
+pub mod Flags
+pub mod Zeros
+pub mod Pens
+pub mod Scanning
+pub mod Sights
+pub mod Taking
+pub mod Progress
+pub mod Framing
+pub mod Checking
+pub mod Exact
+pub mod LastZero
+pub mod ReaderUnique
+pub mod WriterUnique
+pub mod Vectors

@@ -1,0 +1,193 @@
+-- Bits sent with the zeros that they need: two lists one after the other, the length, and what is put piece by piece. The length of a frame.
+-- Assumes nothing.
+use Prim.Native.Nat.{ℕ, zero, suc, _+_, _-_, _*_, _/_, _%_, _<_, _≤_}
+use mathlib.Core.Path.{_≡_, refl, sym, ap, _∙_}
+use mathlib.Core.Bool.{Bool, true, false}
+use mathlib.Core.List.{List, [], _∷_, _++_, append-assoc, append-nil}
+use native.Mathlib.Omega.{arith}
+use lib.ListN.{length, getD, drop, length-append}
+use lib.Seq.{drop-cons}
+use Rattle.octets.specs.Bits.{odd, octBefore, bits, number}
+use Rattle.octets.proofs.Laws.{length-bits}
+use Rattle.fcs.specs.Division.{fcs}
+use Rattle.fcs.proofs.Polynomials.{length-fcs}
+use Rattle.fcs.proofs.Registers.{fcs-octets}
+use Rattle.frame.specs.Limits.{mostInformation, mostOpening, mostClosing}
+use Rattle.frame.specs.Stuffing.{flag, stuffed}
+use Rattle.frame.specs.Frame.{flags, content, frame}
+use Rattle.frame.specs.Pen.{lowBits, Ready, Adds, leftAfter}
+use Rattle.frame.specs.Inner.{Inks}
+use Rattle.frame.specs.declared.Pen.{Pen}
+use Rattle.frame.specs.declared.Ink.{Ink}
+use Rattle.frame.proofs.Flags.{length-flags}
+use Rattle.frame.proofs.Pens.{length-lowBits, adds-none, adds-then, ready-then}
+
+-- zeros are put into two lists, one after the other, piece by piece
+pub stuffed-append : (k : ℕ) (xs ys : List Bool) → stuffed k (xs ++ ys) ≡ stuffed k xs ++ stuffed (leftAfter k xs) ys
+unfolding stuffed leftAfter
+stuffed-append k [] ys = refl
+stuffed-append k (false ∷ xs) ys = rw (stuffed-append 4 xs ys)
+stuffed-append zero (true ∷ xs) ys = rw (stuffed-append 4 xs ys)
+stuffed-append (suc k) (true ∷ xs) ys = rw (stuffed-append k xs ys)
+
+-- and so are the ones counted that may still come
+pub left-append : (k : ℕ) (xs ys : List Bool) → leftAfter k (xs ++ ys) ≡ leftAfter (leftAfter k xs) ys
+unfolding leftAfter
+left-append k [] ys = refl
+left-append k (false ∷ xs) ys = left-append 4 xs ys
+left-append zero (true ∷ xs) ys = left-append 4 xs ys
+left-append (suc k) (true ∷ xs) ys = left-append k xs ys
+
+-- at most four ones may still come
+pub left-le : (k : ℕ) (bs : List Bool) → k ≤ 4 → leftAfter k bs ≤ 4
+unfolding leftAfter
+left-le k [] h = h
+left-le k (false ∷ bs) h = left-le 4 bs (omega arith)
+left-le zero (true ∷ bs) h = left-le 4 bs (omega arith)
+left-le (suc k) (true ∷ bs) h = left-le k bs (omega arith)
+
+-- at most one zero for five bits
+pub stuffed-length : (k : ℕ) (bs : List Bool) → k ≤ 4 → 5 * length (stuffed k bs) + k ≤ 6 * length bs + 4
+unfolding stuffed
+stuffed-length k [] h = omega arith
+stuffed-length k (false ∷ bs) h = omega (arith, stuffed-length 4 bs (omega arith))
+stuffed-length zero (true ∷ bs) h = omega (arith, stuffed-length 4 bs (omega arith))
+stuffed-length (suc k) (true ∷ bs) h = omega (arith, stuffed-length k bs (omega arith))
+
+-- the information's octets, and two of the FCS
+pub length-content : (s : List ℕ) → length (content s) ≡ length s * 8 + 16
+unfolding content
+length-content s = omega (arith, length-append (bits s) (fcs (bits s)), length-bits s, length-fcs (bits s))
+
+-- a frame by its parts
+pub length-frame : (info : List ℕ) (opening closing : ℕ) → length (frame info opening closing) ≡ opening * 8 + length (stuffed 4 (content info)) + closing * 8
+unfolding frame
+length-frame info opening closing =
+    omega (arith, length-append (flags opening) (stuffed 4 (content info) ++ flags closing), length-append (stuffed 4 (content info)) (flags closing), length-flags opening, length-flags closing)
+
+-- no frame is longer than 697 bits
+pub frame-length : (info : List ℕ) (opening closing : ℕ) → length info ≤ mostInformation → opening ≤ mostOpening → closing ≤ mostClosing → length (frame info opening closing) ≤ 697
+frame-length info opening closing h o c =
+    omega (arith, length-frame info opening closing, length-content info, stuffed-length 4 (content info) (omega arith))
+
+-- one flag more
+pub flags-next : (k : ℕ) → flags k ++ flag ≡ flags (suc k)
+unfolding flags
+flags-next zero = refl
+flags-next (suc k) = rw (flags-next k)
+
+-- a flag is put behind k of them
+pub flags-turn : {out₀ out₁ out₂ : List ℕ} {pen₀ pen₁ pen₂ : Pen} (k : ℕ) → Adds (flags k) out₀ pen₀ out₁ pen₁ → Adds (lowBits 8 126) out₁ pen₁ out₂ pen₂ → Adds (flags (suc k)) out₀ pen₀ out₂ pen₂
+unfolding lowBits
+flags-turn k x y = rw (flags-next k) at (adds-then x y)
+
+-- the eight lowest bits of a number are those of an octet
+pub lowBits-octet : (v : ℕ) → lowBits 8 v ≡ octBefore v []
+unfolding lowBits
+lowBits-octet v =
+    let e₂ : v / 2 / 2 ≡ v / 4 = omega arith in
+    let e₃ : v / 4 / 2 ≡ v / 8 = omega arith in
+    let e₄ : v / 8 / 2 ≡ v / 16 = omega arith in
+    let e₅ : v / 16 / 2 ≡ v / 32 = omega arith in
+    let e₆ : v / 32 / 2 ≡ v / 64 = omega arith in
+    let e₇ : v / 64 / 2 ≡ v / 128 = omega arith in
+    simp (e₂, e₃, e₄, e₅, e₆, e₇)
+
+-- bits are the bits a and then the bits b
+pub record Splits (bs a b : List Bool) : Type 0 where
+  pub parts : bs ≡ a ++ b
+
+-- the next of a number's k lowest bits
+pub lowBits-next : (k v : ℕ) → 0 < k → Splits (lowBits k v) (odd v ∷ []) (lowBits (k - 1) (v / 2))
+unfolding lowBits
+lowBits-next zero v h = absurd (omega arith)
+lowBits-next (suc k) v h = let e : suc k - 1 ≡ k = omega arith in record { parts = rw e }
+
+-- the next octet of a run
+pub bits-next : (s : List ℕ) (i : ℕ) → i < length s → Splits (bits (drop i s)) (octBefore (getD s i 0) []) (bits (drop (i + 1) s))
+unfolding bits
+bits-next s i h = let e : i + 1 ≡ suc i = omega arith in record { parts = rw (e, drop-cons s i 0 h) }
+
+-- the FCS is sent as two octets, the lower of its number first
+pub content-octets : (s : List ℕ) (f : ℕ) → f ≡ number (fcs (bits s)) → Splits (content s) (bits s) (octBefore (f % 256) [] ++ octBefore (f / 256) [])
+unfolding content bits
+content-octets s f e = record { parts = rw e (ap (λ (l : List Bool). bits s ++ l) (sym (fcs-octets s))) }
+
+-- one bit, where k ones may still come, is sent as the w lowest bits of v; then m ones may still come
+pub record Sent (k : ℕ) (b : Bool) (w v m : ℕ) : Type 0 where
+  pub bits : stuffed k (b ∷ []) ≡ lowBits w v
+  pub left : m ≡ leftAfter k (b ∷ [])
+
+-- a fifth one, and a zero
+pub sent-five : (k : ℕ) (b : Bool) → b ≡ true → k ≡ 0 → Sent k b 2 1 4
+unfolding stuffed leftAfter lowBits
+sent-five k b e z = rw (e, z) (record { bits = refl; left = refl })
+
+-- another one
+pub sent-one : (k : ℕ) (b : Bool) → b ≡ true → (k ≡ 0 → ⊥) → Sent k b 1 1 (k - 1)
+unfolding stuffed leftAfter lowBits
+sent-one zero b e z = absurd (z refl)
+sent-one (suc k) b e z = rw e (record { bits = refl; left = omega arith })
+
+-- a zero
+pub sent-zero : (k : ℕ) (b : Bool) → b ≡ false → Sent k b 1 0 4
+unfolding stuffed leftAfter lowBits
+sent-zero k b e = rw e (record { bits = refl; left = refl })
+
+-- the room for it
+pub sent-ready : {k : ℕ} {b : Bool} {w v m : ℕ} {out : List ℕ} {pen : Pen} → Sent k b w v m → Ready out pen (length (stuffed k (b ∷ []))) → Ready out pen w
+sent-ready {w = w} {v = v} x r = rw (x .bits, length-lowBits w v) at r
+
+-- it is put
+pub sent-inks : {b : Bool} {w v m : ℕ} {out₀ out₁ : List ℕ} {ink : Ink} {pen : Pen} → Sent (ink .left) b w v m → Adds (lowBits w v) out₀ (ink .pen) out₁ pen
+    → Inks (b ∷ []) out₀ ink out₁ (record { pen = pen; left = m })
+sent-inks x y = record { adds = rw (x .bits) y; left = x .left }
+
+-- what two steps put, one after the other
+inks-then : {a b : List Bool} {out₀ out₁ out₂ : List ℕ} {ink₀ ink₁ ink₂ : Ink} → Inks a out₀ ink₀ out₁ ink₁ → Inks b out₁ ink₁ out₂ ink₂ → Inks (a ++ b) out₀ ink₀ out₂ ink₂
+inks-then {a} {b} {ink₀ = ink₀} x y = record {
+  adds = rw (stuffed-append (ink₀ .left) a b, ← (x .left)) (adds-then (x .adds) (y .adds));
+  left = y .left ∙ rw (left-append (ink₀ .left) a b, ← (x .left));
+}
+
+-- of the bits bs all but the last ones, todo, were put with the zeros that they need; there is room for the others
+pub record Inked (bs todo : List Bool) (out₀ : List ℕ) (ink₀ : Ink) (out : List ℕ) (ink : Ink) : Type 0 where
+  pub done : List Bool
+  pub split : done ++ todo ≡ bs
+  pub inks : Inks done out₀ ink₀ out ink
+  pub few : ink .left ≤ 4
+  pub ready : Ready out (ink .pen) (length (stuffed (ink .left) todo))
+
+-- none were put yet
+pub inked-none : (bs : List Bool) (out : List ℕ) (ink : Ink) → (ink .left ≤ 4) × Ready out (ink .pen) (length (stuffed (ink .left) bs)) → Inked bs bs out ink out ink
+unfolding stuffed leftAfter
+inked-none bs out ink h = record { done = []; split = refl; inks = record { adds = adds-none out (ink .pen) (h .1 .low); left = refl }; few = h .0; ready = h .1 }
+
+module _ {bs rest : List Bool} {out₀ out₁ : List ℕ} {ink₀ ink₁ : Ink} {a todo : List Bool} (e : Splits rest a todo) (x : Inked bs rest out₀ ink₀ out₁ ink₁) where
+  -- the next bits with their zeros, and the bits behind them
+  next-length : length (stuffed (ink₁ .left) rest) ≡ length (stuffed (ink₁ .left) a) + length (stuffed (leftAfter (ink₁ .left) a) todo)
+  next-length = rw (e .parts, stuffed-append (ink₁ .left) a todo) (length-append (stuffed (ink₁ .left) a) (stuffed (leftAfter (ink₁ .left) a) todo))
+
+  -- there is room for the next bits
+  pub inked-front : (ink₁ .left ≤ 4) × Ready out₁ (ink₁ .pen) (length (stuffed (ink₁ .left) a))
+  inked-front = (x .few, record { low = x .ready .low; fits = omega (arith, x .ready .fits, next-length); few = omega (arith, x .ready .few, next-length) })
+
+  -- the next bits are put
+  pub inked-turn : {out₂ : List ℕ} {ink₂ : Ink} → Inks a out₁ ink₁ out₂ ink₂ → Inked bs todo out₀ ink₀ out₂ ink₂
+  inked-turn y = record {
+    done = x .done ++ a;
+    split = append-assoc (x .done) a todo ∙ (rw (e .parts) at (x .split));
+    inks = inks-then (x .inks) y;
+    few = rw (y .left) (left-le (ink₁ .left) a (x .few));
+    ready = rw (y .left) (ready-then _ _ (x .ready) (y .adds) (omega (arith, next-length)));
+  }
+
+-- all were put
+pub inked-end : {bs : List Bool} {out₀ out₁ : List ℕ} {ink₀ ink₁ : Ink} → Inked bs [] out₀ ink₀ out₁ ink₁ → Inks bs out₀ ink₀ out₁ ink₁
+inked-end x = let e = sym (append-nil (x .done)) ∙ x .split in rw e at (x .inks)
+
+-- a frame is put part by part
+pub frame-adds : {out₀ out₁ out₂ out₃ : List ℕ} {pen₀ pen₁ pen₂ pen₃ : Pen} (info : List ℕ) (opening closing : ℕ)
+    → Adds (flags opening) out₀ pen₀ out₁ pen₁ → Adds (stuffed 4 (content info)) out₁ pen₁ out₂ pen₂ → Adds (flags closing) out₂ pen₂ out₃ pen₃ → Adds (frame info opening closing) out₀ pen₀ out₃ pen₃
+unfolding frame
+frame-adds info opening closing x y z = adds-then x (adds-then y z)

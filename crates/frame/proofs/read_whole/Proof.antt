@@ -1,0 +1,77 @@
+-- `frame::read_whole` meets its contract: a frame with nothing behind it is checked, anything else has bad flags. Assumes nothing.
+use mathlib.Core.Path.{refl}
+use lib.ListN.{take}
+use Rattle.octets.specs.Bits.{bits}
+use Rattle.frame.specs.declared.FrameRead.the-variants.{BadFlags}
+use Rattle.frame.proofs.Sights.{length-run}
+use Rattle.frame.proofs.Checking.{reads-refused, reads-as}
+use Rattle.frame.proofs.Framing.{is-within, alone-nothing, alone-more, alone-checked}
+use borrow.Author.Needs.{needs}
+use Rattle.frame.proofs.read_whole.Statement.{statement}
+use Rattle.frame.proofs.read_whole.Tie as tie
+
+slice-aggregate-read-framed : tie.Need-slice-aggregate-read-framed
+slice-aggregate-read-framed c = search needs
+
+read-framed-requires : tie.Need-read-framed-requires
+read-framed-requires c κs = search needs
+
+enum-told : tie.Need-enum-told
+enum-told c = search needs
+
+enum-known-found : tie.Need-enum-known-found
+enum-known-found c = search needs
+
+returns : tie.Need-returns
+returns c =
+    let rf = c .before .before .before .before .before in
+    let st = rf .before .before .before .before in
+    let a = st .args in
+    reads-refused _ (a .out .now) 2 BadFlags (alone-more (take (a .count) (bits (a .run .now))) (a .count) (length-run (a .run .now) (a .count) (st .pre .0)) _ (rf .read-framed .result) (rf .read-framed .ensures) _ _ (c .before .before .found .given .1) (c .if1 .taken)) refl
+
+slice-aggregate-check-content : tie.Need-slice-aggregate-check-content
+slice-aggregate-check-content c = search needs
+
+check-content-requires : tie.Need-check-content-requires
+check-content-requires c κs =
+    let fd = c .before .before .before .before in
+    let rf = fd .before .before .before in
+    let st = rf .before .before .before .before in
+    let a = st .args in
+    let w = is-within _ (take (a .count) (bits (a .run .now))) (a .count) _ (rf .read-framed .result) (rf .read-framed .ensures) _ _ (fd .found .given .1) in
+    (w .0, rf .read-framed .kept .1 .1 .1 .0, st .pre .2)
+
+returns-2 : tie.Need-returns-2
+returns-2 c =
+    let rf = c .before .before .before in
+    let st = rf .before .before .before .before in
+    let a = st .args in
+    reads-refused _ (a .out .now) 2 BadFlags (alone-nothing (take (a .count) (bits (a .run .now))) (a .count) (length-run (a .run .now) (a .count) (st .pre .0)) _ (rf .read-framed .result) (rf .read-framed .ensures) (c .enum-told .given .1)) refl
+
+same-length : tie.Need-same-length
+same-length c = search needs
+
+returns-3 : tie.Need-returns-3
+returns-3 c =
+    let cc = c .before .before in
+    let e1 = cc .before .before .before in
+    let fd = e1 .before .before in
+    let rf = fd .before .before .before in
+    let st = rf .before .before .before .before in
+    let a = st .args in
+    reads-as (alone-checked (take (a .count) (bits (a .run .now))) (a .count) (length-run (a .run .now) (a .count) (st .pre .0)) _ (rf .read-framed .result) (rf .read-framed .ensures) _ _ (fd .found .given .1) (e1 .if1 .left)) (cc .check-content .ensures)
+
+pub read-whole-spec : {M : Type 1} → statement M
+read-whole-spec =
+    tie.close
+    (tie.spec
+    slice-aggregate-read-framed
+    read-framed-requires
+    enum-told
+    enum-known-found
+    returns
+    slice-aggregate-check-content
+    check-content-requires
+    returns-2
+    same-length
+    returns-3)

@@ -1,0 +1,450 @@
+// Frames of V.8 bis 7.2: the frame reader and the frame writer. Bits are packed with bit 1 of each octet first.
+ghost use mathlib.Core.Path.{_≡_};
+ghost use mathlib.Core.Bool.{Bool, true, false};
+ghost use mathlib.Core.List.{List, [], _∷_};
+ghost use Prim.Native.Nat.{ℕ, _+_, _*_, _^_, _≤_, _<_};
+ghost use lib.ListN.{length, getD, take, drop};
+ghost use Rattle.octets.specs.Bits.{bits, number, octBefore, packed};
+ghost use Rattle.octets.specs.Lay.{put};
+ghost use Rattle.fcs.specs.Division.{fcs};
+ghost use Rattle.frame.specs.Stuffing.{flag, starts, stuffed, contentFrom};
+ghost use Rattle.frame.specs.Frame.{flags, flagsAt, content, frame, framed};
+ghost use Rattle.frame.specs.Reader.{checked, alone, readFrame, Reads};
+ghost use Rattle.frame.specs.Writer.{writeFrame, Writes};
+ghost use Rattle.frame.specs.Pen.{lowBits, Holds, Ready, Adds, leftAfter};
+ghost use Rattle.frame.specs.Inner.{Inks, Takes, Ends, Finds};
+ghost use Rattle.frame.specs.Limits.{mostInformation, mostBits, informationRoom, frameRoom, mostOpening, mostClosing};
+use fcs::fcs_of;
+use octets::bit_at;
+use octets::copy_front;
+use octets::is_one;
+use octets::octet_at;
+
+const FLAG: u8 = 126;
+
+const MOST_INFORMATION: usize = 64;
+
+const MOST_BITS: usize = 704;
+
+const INFORMATION_ROOM: usize = 64;
+
+const FRAME_ROOM: usize = 88;
+
+const FEWEST_OPENING: usize = 2;
+
+const MOST_OPENING: usize = 5;
+
+const FEWEST_CLOSING: usize = 1;
+
+const MOST_CLOSING: usize = 3;
+
+const FEWEST_CONTENT: usize = 3;
+
+const MOST_CONTENT: usize = 66;
+
+// The frame reader's answer: the number of information octets, or why there are none.
+pub enum FrameRead {
+    Octets(usize),
+    NoRoom,
+    BadFlags,
+    SplitOctet,
+    TooShort,
+    TooLong,
+    WrongCheck,
+}
+
+// The frame writer's answer: the number of bits, or why there are none.
+pub enum FrameWritten {
+    Bits(usize),
+    SmallOutput,
+    BadLength,
+    BadFlagCount,
+}
+
+// Where the next bit goes, and the bits of its octet that are not stored yet.
+pub struct Pen {
+    pub at: usize,
+    pub octet: u8,
+}
+
+// Puts the width lowest bits of a value.
+fn put_bits(out: &mut [u8], pen: Pen, value: u8, width: usize) -> Pen
+    requires { ⌜ (value < 2 ^ width) × (width ≤ 8) × Ready (now out) pen width ⌝ }
+    ensures { λ r. ⌜ Adds (lowBits width value) (now (out .entry)) pen (now (out .exit)) r ⌝ }
+{
+    let at = pen.at;
+    let octet = pen.octet;
+    let shift = at % 8;
+    let both = (octet as u16) + ((value as u16) << shift);
+    if shift + width < 8 {
+        return Pen {
+            at: at + width,
+            octet: both as u8,
+        };
+    }
+    let i = at / 8;
+    out[i] = (both % 256) as u8;
+    Pen {
+        at: at + width,
+        octet: (both / 256) as u8,
+    }
+}
+
+// Stores the octet that the last bits did not fill; its unused bits are zero.
+fn put_last(out: &mut [u8], pen: Pen)
+    requires { ⌜ Ready (now out) pen 0 ⌝ }
+    ensures { λ _. ⌜ ((o : List ℕ) (bs : List Bool) → length o ≡ length (now (out .entry)) → Holds o bs (now (out .entry)) pen → now (out .exit) ≡ put (packed bs) o) ⌝ }
+{
+    let at = pen.at;
+    let octet = pen.octet;
+    if at % 8 != 0 {
+        let i = at / 8;
+        out[i] = octet;
+    }
+}
+
+// Puts count flags.
+fn put_flags(out: &mut [u8], start: Pen, count: usize) -> Pen
+    requires { ⌜ (count ≤ 8) × Ready (now out) start (count * 8) ⌝ }
+    ensures { λ r. ⌜ Adds (flags count) (now (out .entry)) start (now (out .exit)) r ⌝ }
+{
+    let mut pen = start;
+    let mut left = count;
+    while 0 < left {
+        pen = put_bits(out, pen, FLAG, 8);
+        left -= 1;
+    }
+    pen
+}
+
+// A pen, and how many ones may still come before the one that a zero follows.
+pub struct Ink {
+    pub pen: Pen,
+    pub left: usize,
+}
+
+// Puts a bit, and a zero behind a fifth one.
+fn put_stuffed(out: &mut [u8], ink: Ink, one: bool) -> Ink
+    requires { ⌜ (ink .left ≤ 4) × Ready (now out) (ink .pen) (length (stuffed (ink .left) (one ∷ []))) ⌝ }
+    ensures { λ r. ⌜ Inks (one ∷ []) (now (out .entry)) ink (now (out .exit)) r ⌝ }
+{
+    let pen = ink.pen;
+    let left = ink.left;
+    if one {
+        if left == 0 {
+            let next = put_bits(out, pen, 1, 2);
+            return Ink { pen: next, left: 4 };
+        }
+        let next = put_bits(out, pen, 1, 1);
+        return Ink {
+            pen: next,
+            left: left - 1,
+        };
+    }
+    let next = put_bits(out, pen, 0, 1);
+    Ink { pen: next, left: 4 }
+}
+
+// Puts the bits of an octet, with the zeros that they need.
+fn put_octet(out: &mut [u8], start: Ink, octet: u8) -> Ink
+    requires { ⌜ (start .left ≤ 4) × Ready (now out) (start .pen) (length (stuffed (start .left) (octBefore octet []))) ⌝ }
+    ensures { λ r. ⌜ Inks (octBefore octet []) (now (out .entry)) start (now (out .exit)) r ⌝ }
+{
+    let mut ink = start;
+    let mut rest = octet;
+    let mut k = 8usize;
+    while 0 < k {
+        ink = put_stuffed(out, ink, rest % 2 == 1);
+        rest = rest / 2;
+        k -= 1;
+    }
+    ink
+}
+
+// Puts the bits of a run of octets, with the zeros that they need.
+fn put_octets(out: &mut [u8], start: Ink, run: &[u8]) -> Ink
+    requires { ⌜ (start .left ≤ 4) × Ready (now out) (start .pen) (length (stuffed (start .left) (bits (now run)))) ⌝ }
+    ensures { λ r. ⌜ Inks (bits (now (run .entry))) (now (out .entry)) start (now (out .exit)) r ⌝ }
+{
+    let mut ink = start;
+    let mut i = 0;
+    while i < run.len() {
+        ink = put_octet(out, ink, run[i]);
+        i += 1;
+    }
+    ink
+}
+
+// Puts the information and its FCS f.
+fn put_content(out: &mut [u8], start: Pen, info: &[u8], f: u16) -> Pen
+    requires { ⌜ (f ≡ number (fcs (bits (now info)))) × Ready (now out) start (length (stuffed 4 (content (now info)))) ⌝ }
+    ensures { λ r. ⌜ Adds (stuffed 4 (content (now (info .entry)))) (now (out .entry)) start (now (out .exit)) r ⌝ }
+{
+    let first = put_octets(
+        out,
+        Ink {
+            pen: start,
+            left: 4,
+        },
+        info,
+    );
+    let second = put_octet(out, first, (f % 256) as u8);
+    let third = put_octet(out, second, (f / 256) as u8);
+    third.pen
+}
+
+// The whole frame, where the information, the flag counts and the output are right. Gives its bit count.
+fn put_frame(info: &[u8], opening: usize, closing: usize, out: &mut [u8]) -> usize
+    requires { ⌜ (length (now info) ≤ mostInformation) × (opening ≤ mostOpening) × (closing ≤ mostClosing) × (frameRoom ≤ length (now out)) ⌝ }
+    ensures { λ r. ⌜ (r ≡ length (frame (now (info .entry)) opening closing)) × (now (out .exit) ≡ put (packed (frame (now (info .entry)) opening closing)) (now (out .entry))) ⌝ }
+{
+    let f = fcs_of(info);
+    let opened = put_flags(out, Pen { at: 0, octet: 0 }, opening);
+    let filled = put_content(out, opened, info, f);
+    let closed = put_flags(out, filled, closing);
+    put_last(out, closed);
+    closed.at
+}
+
+// The frame writer: the information between flags, with its FCS. It gives the number of bits.
+pub fn write_frame(info: &[u8], opening: usize, closing: usize, out: &mut [u8]) -> FrameWritten
+    ensures { λ r. ⌜ Writes (writeFrame (now (info .entry)) opening closing (length (now (out .entry)))) (now (out .entry)) r (now (out .exit)) ⌝ }
+{
+    if out.len() < FRAME_ROOM {
+        return FrameWritten::SmallOutput;
+    }
+    if info.len() < 1 {
+        return FrameWritten::BadLength;
+    }
+    if MOST_INFORMATION < info.len() {
+        return FrameWritten::BadLength;
+    }
+    if opening < FEWEST_OPENING {
+        return FrameWritten::BadFlagCount;
+    }
+    if MOST_OPENING < opening {
+        return FrameWritten::BadFlagCount;
+    }
+    if closing < FEWEST_CLOSING {
+        return FrameWritten::BadFlagCount;
+    }
+    if MOST_CLOSING < closing {
+        return FrameWritten::BadFlagCount;
+    }
+    FrameWritten::Bits(put_frame(info, opening, closing, out))
+}
+
+// Whether a flag begins at a place of the first count bits of a run.
+fn flag_at(run: &[u8], count: usize, at: usize) -> bool
+    requires { ⌜ (count ≤ length (now run) * 8) × (at ≤ count) ⌝ }
+    ensures { λ r. ⌜ r ≡ starts flag (drop at (take count (bits (now (run .entry))))) ⌝ }
+{
+    if count - at < 8 {
+        return false;
+    }
+    octet_at(run, at) == FLAG
+}
+
+// How many flags begin at a place of the first count bits of a run, counted up to most.
+fn count_flags(run: &[u8], count: usize, start: usize, most: usize) -> usize
+    requires { ⌜ (count ≤ length (now run) * 8) × (count ≤ mostBits) × (start ≤ count) ⌝ }
+    ensures { λ r. ⌜ r ≡ flagsAt most (drop start (take count (bits (now (run .entry))))) ⌝ }
+{
+    let mut at = start;
+    let mut k = 0;
+    while k < most {
+        if flag_at(run, count, at) {
+            k += 1;
+            at += 8;
+        } else {
+            return k;
+        }
+    }
+    k
+}
+
+// What reading found: how many bits of content, and the place where what follows begins.
+pub enum Found {
+    Nothing,
+    Upto { bits: usize, next: usize },
+}
+
+// Where the content's next bit goes, how many ones may still come in a row, and whether the last zero stands in the content.
+pub struct Scan {
+    pub pen: Pen,
+    pub left: usize,
+    pub kept: bool,
+}
+
+// Takes one bit of the content: the zero after five ones is left out.
+fn take_bit(plain: &mut [u8], scan: Scan, one: bool) -> Scan
+    requires { ⌜ (one ≡ true → 0 < scan .left) × Ready (now plain) (scan .pen) 1 ⌝ }
+    ensures { λ r. ⌜ Takes one (now (plain .entry)) scan (now (plain .exit)) r ⌝ }
+{
+    let pen = scan.pen;
+    let left = scan.left;
+    let kept = scan.kept;
+    if one {
+        let next = put_bits(plain, pen, 1, 1);
+        return Scan {
+            pen: next,
+            left: left - 1,
+            kept,
+        };
+    }
+    if left == 0 {
+        return Scan {
+            pen,
+            left: 5,
+            kept: false,
+        };
+    }
+    let next = put_bits(plain, pen, 0, 1);
+    Scan {
+        pen: next,
+        left: 5,
+        kept: true,
+    }
+}
+
+// The sixth one in a row, at a place of the first count bits of a run: the end of the content, where it and the zero before
+// the six ones belong to a flag. The zero and five of the ones stand behind the content then.
+fn end_content(run: &[u8], count: usize, at: usize, plain: &mut [u8], scan: Scan) -> Found
+    requires { ⌜ (count ≤ length (now run) * 8) × (count ≤ mostBits) × (at < count) × Ready (now plain) (scan .pen) 0 × (scan .kept ≡ true → (6 ≤ scan .pen .at) × (6 ≤ at)) ⌝ }
+    ensures { λ r. ⌜ Ends (drop (at + 1) (take count (bits (now (run .entry))))) at (now (plain .entry)) scan (now (plain .exit)) r ⌝ }
+{
+    let pen = scan.pen;
+    let kept = scan.kept;
+    let behind = at + 1;
+    if !kept {
+        return Found::Nothing;
+    }
+    if count <= behind {
+        return Found::Nothing;
+    }
+    if is_one(bit_at(run, behind)) {
+        return Found::Nothing;
+    }
+    put_last(plain, pen);
+    Found::Upto {
+        bits: pen.at - 6,
+        next: at - 6,
+    }
+}
+
+// Reads the content from a place of the first count bits of a run, without its inserted zeros, up to the closing flag.
+fn read_content(run: &[u8], count: usize, start: usize, plain: &mut [u8]) -> Found
+    requires { ⌜ (count ≤ length (now run) * 8) × (count ≤ mostBits) × (start ≤ count) × (length (now plain) ≡ frameRoom) ⌝ }
+    ensures { λ r. ⌜ Finds (contentFrom 5 (drop start (take count (bits (now (run .entry)))))) (take count (bits (now (run .entry)))) count (now (plain .exit)) r ⌝ }
+{
+    let mut scan = Scan {
+        pen: Pen { at: 0, octet: 0 },
+        left: 5,
+        kept: false,
+    };
+    let mut at = start;
+    while at < count {
+        let one = is_one(bit_at(run, at));
+        if one {
+            if scan.left == 0 {
+                return end_content(run, count, at, plain, scan);
+            }
+        }
+        scan = take_bit(plain, scan, one);
+        at += 1;
+    }
+    Found::Nothing
+}
+
+// Reads the frame at a place of the first count bits of a run, and says where it stopped.
+fn read_framed(run: &[u8], count: usize, start: usize, plain: &mut [u8]) -> Found
+    requires { ⌜ (count ≤ length (now run) * 8) × (count ≤ mostBits) × (start ≤ count) × (length (now plain) ≡ frameRoom) ⌝ }
+    ensures { λ r. ⌜ Finds (framed (drop start (take count (bits (now (run .entry)))))) (take count (bits (now (run .entry)))) count (now (plain .exit)) r ⌝ }
+{
+    let opening = count_flags(run, count, start, MOST_OPENING + 1);
+    if opening < FEWEST_OPENING {
+        return Found::Nothing;
+    }
+    if MOST_OPENING < opening {
+        return Found::Nothing;
+    }
+    let found = read_content(run, count, start + opening * 8, plain);
+    match found {
+        Found::Nothing => Found::Nothing,
+        Found::Upto { bits, next } => {
+            let closing = count_flags(run, count, next, MOST_CLOSING);
+            Found::Upto {
+                bits,
+                next: next + closing * 8,
+            }
+        }
+    }
+}
+
+// Two octets as one number, the first lowest.
+fn pair_at(run: &[u8], at: usize) -> u16
+    requires { ⌜ (at + 1 < length (now run)) × (at ≤ mostBits) ⌝ }
+    ensures { λ r. ⌜ r ≡ getD (now (run .entry)) at 0 + getD (now (run .entry)) (at + 1) 0 * 256 ⌝ }
+{
+    let low = run[at] as u16;
+    let high = run[at + 1] as u16;
+    high * 256 + low
+}
+
+// Checks the content, the first size bits of plain, and gives out its information.
+fn check_content(plain: &[u8], size: usize, out: &mut [u8]) -> FrameRead
+    requires { ⌜ (size ≤ mostBits) × (length (now plain) ≡ frameRoom) × (informationRoom ≤ length (now out)) ⌝ }
+    ensures { λ r. ⌜ Reads (checked (take size (bits (now (plain .entry))))) (now (out .entry)) r (now (out .exit)) ⌝ }
+{
+    if size % 8 != 0 {
+        return FrameRead::SplitOctet;
+    }
+    let octets = size / 8;
+    if octets < FEWEST_CONTENT {
+        return FrameRead::TooShort;
+    }
+    if MOST_CONTENT < octets {
+        return FrameRead::TooLong;
+    }
+    let n = octets - 2;
+    let f = fcs_of(&plain[..n]);
+    if f != pair_at(plain, n) {
+        return FrameRead::WrongCheck;
+    }
+    copy_front(plain, n, out);
+    FrameRead::Octets(n)
+}
+
+// The frame reader, where the count, the run and the output are right.
+fn read_whole(run: &[u8], count: usize, out: &mut [u8]) -> FrameRead
+    requires { ⌜ (count ≤ length (now run) * 8) × (count ≤ mostBits) × (informationRoom ≤ length (now out)) ⌝ }
+    ensures { λ r. ⌜ Reads (alone (framed (take count (bits (now (run .entry)))))) (now (out .entry)) r (now (out .exit)) ⌝ }
+{
+    let mut plain = [0u8; 88];
+    let found = read_framed(run, count, 0, &mut plain);
+    match found {
+        Found::Nothing => FrameRead::BadFlags,
+        Found::Upto { bits, next } => {
+            if next != count {
+                return FrameRead::BadFlags;
+            }
+            check_content(&plain, bits, out)
+        }
+    }
+}
+
+// The frame reader: the information of the one frame that the first count bits of a run are. It gives the number of octets.
+pub fn read_frame(run: &[u8], count: usize, out: &mut [u8]) -> FrameRead
+    ensures { λ r. ⌜ Reads (readFrame (now (run .entry)) count (length (now (out .entry)))) (now (out .entry)) r (now (out .exit)) ⌝ }
+{
+    if MOST_BITS < count {
+        return FrameRead::NoRoom;
+    }
+    if run.len() < (count + 7) / 8 {
+        return FrameRead::NoRoom;
+    }
+    if out.len() < INFORMATION_ROOM {
+        return FrameRead::NoRoom;
+    }
+    read_whole(run, count, out)
+}

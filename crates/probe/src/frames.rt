@@ -1,0 +1,68 @@
+// Operations 1 and 2: the frame reader and the frame writer.
+use super::wire;
+use super::wire::Answer;
+use super::wire::PIECES;
+use super::wire::RUN_LIMIT;
+use super::wire::U8;
+use super::wire::U32;
+use frame::FrameRead;
+use frame::FrameWritten;
+
+// Request: bits u32, run, out. Reply: no u8, octets u16, out.
+pub(crate) fn frame_reader(request: &[u8], reply: &mut [u8]) -> usize {
+    let bits = wire::read_number(request, PIECES, U32);
+    let run = wire::read_run(request, bits.end, RUN_LIMIT);
+    let out = wire::read_run(request, run.end, RUN_LIMIT);
+    if out.end != request.len() {
+        return wire::put_refusal(reply);
+    }
+    let mut buffer = [0u8; RUN_LIMIT];
+    let room = wire::put_octets(&mut buffer, 0, wire::octets_of(request, out));
+    let read = frame::read_frame(
+        wire::octets_of(request, run),
+        bits.value as usize,
+        wire::first_mut(&mut buffer, room),
+    );
+    wire::put_answer(reply, answer_of_reader(read), &buffer, room)
+}
+
+fn answer_of_reader(read: FrameRead) -> Answer {
+    match read {
+        FrameRead::Octets(count) => Answer { no: 0, count },
+        FrameRead::NoRoom => Answer { no: 1, count: 0 },
+        FrameRead::BadFlags => Answer { no: 2, count: 0 },
+        FrameRead::SplitOctet => Answer { no: 3, count: 0 },
+        FrameRead::TooShort => Answer { no: 4, count: 0 },
+        FrameRead::TooLong => Answer { no: 5, count: 0 },
+        FrameRead::WrongCheck => Answer { no: 6, count: 0 },
+    }
+}
+
+// Request: opening u8, closing u8, info, out. Reply: no u8, bits u16, out.
+pub(crate) fn frame_writer(request: &[u8], reply: &mut [u8]) -> usize {
+    let opening = wire::read_number(request, PIECES, U8);
+    let closing = wire::read_number(request, opening.end, U8);
+    let info = wire::read_run(request, closing.end, RUN_LIMIT);
+    let out = wire::read_run(request, info.end, RUN_LIMIT);
+    if out.end != request.len() {
+        return wire::put_refusal(reply);
+    }
+    let mut buffer = [0u8; RUN_LIMIT];
+    let room = wire::put_octets(&mut buffer, 0, wire::octets_of(request, out));
+    let written = frame::write_frame(
+        wire::octets_of(request, info),
+        opening.value as usize,
+        closing.value as usize,
+        wire::first_mut(&mut buffer, room),
+    );
+    wire::put_answer(reply, answer_of_writer(written), &buffer, room)
+}
+
+fn answer_of_writer(written: FrameWritten) -> Answer {
+    match written {
+        FrameWritten::Bits(count) => Answer { no: 0, count },
+        FrameWritten::SmallOutput => Answer { no: 1, count: 0 },
+        FrameWritten::BadLength => Answer { no: 7, count: 0 },
+        FrameWritten::BadFlagCount => Answer { no: 8, count: 0 },
+    }
+}
