@@ -1,3 +1,4 @@
+-- `frame::pair_at` meets its contract: two octets below 256 make a number below 65536. Assumes nothing.
 use native.Mathlib.Omega.{arith}
 use Prim.Native.Nat.{_+_}
 use borrow.Author.Needs.{needs}
