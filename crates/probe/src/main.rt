@@ -2,6 +2,7 @@
 // of requests and standard output a row of replies, one for each request, in order. Both have the
 // form of a run (wire.rt). A request is the octet of its operation and the pieces that this takes.
 mod frames;
+mod messages;
 mod wire;
 
 use libc::STDIN_FILENO;
@@ -21,6 +22,8 @@ fn answer(request: &[u8], reply: &mut [u8]) -> usize {
     match wire::octet(request, 0) {
         1 => frames::frame_reader(request, reply),
         2 => frames::frame_writer(request, reply),
+        3 => messages::message_reader(request, reply),
+        4 => messages::message_writer(request, reply),
         _ => wire::put_refusal(reply),
     }
 }

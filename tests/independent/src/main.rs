@@ -7,6 +7,8 @@
 mod bench;
 mod frame;
 mod frame_checks;
+mod message;
+mod message_checks;
 mod probe;
 mod random;
 mod wire;
@@ -21,7 +23,11 @@ fn main() -> ExitCode {
         eprintln!("usage: compare PROBE VECTORS");
         return ExitCode::from(2);
     };
-    let layers = vec![wire_checks::layer(), frame_checks::layer(vectors)];
+    let layers = vec![
+        wire_checks::layer(),
+        frame_checks::layer(vectors),
+        message_checks::layer(),
+    ];
     let bench = bench::Bench::new(probe::Probe::new(program.clone()));
     if bench.run(layers) {
         ExitCode::SUCCESS

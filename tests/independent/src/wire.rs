@@ -1,6 +1,9 @@
 //! The octets of requests and replies: numbers lowest octet first, each run
 //! and buffer as its length and its octets.
 
+/// The most octets a run or buffer may have in a request.
+pub const MOST_LENT: usize = 255;
+
 /// A request or reply under construction.
 #[derive(Default)]
 pub struct Row(Vec<u8>);
@@ -25,10 +28,13 @@ impl Row {
         self
     }
 
-    pub fn run(mut self, octets: &[u8]) -> Row {
-        self = self.u16(octets.len() as u16);
+    pub fn octets(mut self, octets: &[u8]) -> Row {
         self.0.extend(octets);
         self
+    }
+
+    pub fn run(self, octets: &[u8]) -> Row {
+        self.u16(octets.len() as u16).octets(octets)
     }
 
     pub fn done(self) -> Vec<u8> {
@@ -57,6 +63,11 @@ impl<'a> Fields<'a> {
     pub fn u16(&mut self) -> Option<u16> {
         let octets = self.octets(2)?;
         Some(u16::from_le_bytes([octets[0], octets[1]]))
+    }
+
+    pub fn u32(&mut self) -> Option<u32> {
+        let octets = self.octets(4)?;
+        octets.try_into().map(u32::from_le_bytes).ok()
     }
 
     pub fn run(&mut self) -> Option<&'a [u8]> {
@@ -121,10 +132,12 @@ mod tests {
 
     #[test]
     fn fields_come_back() {
-        let row = Row::new().u8(7).u16(515).run(&[1, 2, 3]).done();
+        let row = Row::new().u8(7).u16(515).u32(70_000).run(&[1, 2, 3]);
+        let row = row.done();
         let mut fields = Fields::of(&row);
         assert_eq!(fields.u8(), Some(7));
         assert_eq!(fields.u16(), Some(515));
+        assert_eq!(fields.u32(), Some(70_000));
         assert_eq!(fields.run(), Some(&[1, 2, 3][..]));
         assert!(fields.is_empty());
         assert_eq!(fields.u8(), None);

@@ -5,13 +5,12 @@ use crate::frame::{self, FcsRegister, ZeroInserter};
 use crate::random::Random;
 use crate::wire::Row;
 
+pub use crate::wire::MOST_LENT;
+
 pub const READER: &str = "frame reader";
 pub const WRITER: &str = "frame writer";
 const READER_OPERATION: u8 = 1;
 const WRITER_OPERATION: u8 = 2;
-
-/// The most octets a run or buffer may have in a request.
-pub const MOST_LENT: usize = 255;
 
 pub type Bits = Vec<bool>;
 

@@ -1,0 +1,97 @@
+-- What success tells: the message is well-formed, the list has its codes and nothing else new, and the NS told of is the NS of the message.
+-- Assumes nothing.
+use Prim.Native.Nat.{ℕ, suc, _-_, _≤_}
+use mathlib.Core.Path.{_≡_, refl, sym, ap, _∙_}
+use mathlib.Core.Bool.{Bool, true, false, not}
+use mathlib.Core.List.{List, []}
+use native.Mathlib.Omega.{arith}
+use borrow.Author.Tests.{le-ltb}
+use lib.Dec.{ltb, eqb}
+use lib.ListN.{length, drop, length-drop}
+use lib.Seq.{take-all}
+use Rattle.octets.specs.Lay.{put}
+use Rattle.octets.specs.Places.{pick}
+use Rattle.tree.specs.declared.Form.{Form}
+use Rattle.tree.specs.declared.Form.the-variants.{Fine, Early, Wrong, Left, BadLength}
+use Rattle.message.specs.Kinds.{known, hasFields, typeOf}
+use Rattle.message.specs.Nonstandard.{nsAnnounced}
+use Rattle.message.specs.Reader.{mostOctets, listRoom, tailAt, messageForm, messageCodes, hasNs, Reading, refused, accepted, refusedIf, judged, readMessage, Reply, readTold, readReply, Reads, spanTold, nsTold}
+use Rattle.message.specs.declared.MessageRead.{MessageRead}
+use Rattle.message.specs.declared.MessageRead.the-variants.{Read, SmallList, BadSize, UnknownType, Malformed}
+use Rattle.message.proofs.Fields.{parts-fit}
+use Rattle.message.proofs.Reading.{form-fields}
+use Rattle.message.proofs.Unique.{ns-none}
+
+-- success: the last check is passed, and no refusal has the number 0
+Passes : Reading → Form → Type 0
+Passes x f = (x ≡ accepted → f ≡ Fine) × (x ≡ refused 0 → ⊥)
+
+-- what a test with a number other than 0 lets through passes
+passes-if : (t : Bool) (k : ℕ) (x : Reading) (f : Form) → Passes x f → Passes (refusedIf t (suc k) x) f
+unfolding Passes
+passes-if true k x f h = (λ e. cc, λ e. let z : suc k ≡ 0 = cc in omega arith)
+passes-if false k x f h = h
+
+passes-form : (f : Form) → Passes (judged f) f
+unfolding Passes
+passes-form Fine = (λ e. refl, λ e. let z : _≡_ {A = ℕ} 0 1 = cc in omega arith)
+passes-form (Early i) = (λ e. cc, λ e. let z : _≡_ {A = ℕ} 4 0 = cc in omega arith)
+passes-form (Wrong i) = (λ e. cc, λ e. let z : _≡_ {A = ℕ} 4 0 = cc in omega arith)
+passes-form (Left i) = (λ e. cc, λ e. let z : _≡_ {A = ℕ} 4 0 = cc in omega arith)
+passes-form (BadLength i) = (λ e. cc, λ e. let z : _≡_ {A = ℕ} 4 0 = cc in omega arith)
+
+passes : (l : List ℕ) (room : ℕ) → Passes (readMessage l room) (messageForm l)
+unfolding readMessage
+passes l room =
+    passes-if (ltb room listRoom) 0 _ _
+    (passes-if (eqb (length l) 0) 1 _ _
+    (passes-if (ltb mostOctets (length l)) 1 _ _
+    (passes-if (not (known (typeOf l))) 2 _ _ (passes-form (messageForm l)))))
+
+-- a message that is accepted is well-formed
+pub accepted-fine : (l : List ℕ) (room : ℕ) → readMessage l room ≡ accepted → messageForm l ≡ Fine
+unfolding Passes
+accepted-fine l room = passes l room .0
+
+-- an answer that is success is that of an accepted message
+pub success-accepted : (l list₀ : List ℕ) (r : MessageRead) (list₁ : List ℕ) → Reads l list₀ r list₁ → readTold r .no ≡ 0 → readMessage l (length list₀) ≡ accepted
+unfolding Passes
+success-accepted l list₀ r list₁ a h = go (readMessage l (length list₀)) (passes l (length list₀) .1) (a .reply)
+  where
+    go : (x : Reading) → (x ≡ refused 0 → ⊥) → readTold r ≡ readReply x l → x ≡ accepted
+    go (refused k) n p = absurd (n (ap refused (sym (ap (λ (y : Reply). y .no) p) ∙ h)))
+    go accepted n p = refl
+
+-- it leaves the codes at the front of the list and the rest as it was
+pub success-writes : (l list₀ : List ℕ) (r : MessageRead) (list₁ : List ℕ) → Reads l list₀ r list₁ → readTold r .no ≡ 0 → list₁ ≡ put (messageCodes l) list₀
+success-writes l list₀ r list₁ a h = rw (success-accepted l list₀ r list₁ a h) at (a .list)
+
+-- an answer tells in its reply where its NS lies
+told-span : (r : MessageRead) → (spanTold r .at ≡ readTold r .nsAt) × (spanTold r .length ≡ readTold r .nsLength)
+told-span (Read m) = (refl, refl)
+told-span SmallList = (refl, refl)
+told-span BadSize = (refl, refl)
+told-span UnknownType = (refl, refl)
+told-span Malformed = (refl, refl)
+
+-- a well-formed message has its NS within the octets
+ns-fits : (l : List ℕ) → messageForm l ≡ Fine → hasNs l ≡ true → tailAt l ≤ length l
+ns-fits l f h = go (hasFields (typeOf l)) refl h
+  where
+    go : (t : Bool) → hasFields (typeOf l) ≡ t → pick t (nsAnnounced l) false ≡ true → tailAt l ≤ length l
+    go true e i = parts-fit l (sym (form-fields l e) ∙ f) .1
+    go false e i = let z : _≡_ {A = ℕ} 0 1 = cc in omega arith
+
+-- the NS that it tells of is all that stands behind S
+pub success-ns : (l list₀ : List ℕ) (r : MessageRead) (list₁ : List ℕ) → Reads l list₀ r list₁ → readTold r .no ≡ 0 → nsTold r l ≡ pick (hasNs l) (drop (tailAt l) l) []
+unfolding nsTold
+success-ns l list₀ r list₁ a h =
+    let e = success-accepted l list₀ r list₁ a h in
+    let p : readTold r ≡ readReply accepted l = rw e at (a .reply) in
+    go (hasNs l) (ns-fits l (accepted-fine l (length list₀) e)) (told-span r .0 ∙ ap (λ (y : Reply). y .nsAt) p) (told-span r .1 ∙ ap (λ (y : Reply). y .nsLength) p)
+  where
+    go : (t : Bool) → (t ≡ true → tailAt l ≤ length l) → spanTold r .at ≡ pick t (tailAt l) 0 → spanTold r .length ≡ pick t (length l - tailAt l) 0 → nsTold r l ≡ pick t (drop (tailAt l) l) []
+    go true f p q =
+        rw (p, q, le-ltb (length l) (tailAt l) (f refl), le-ltb (length l - tailAt l) (length l - tailAt l) (omega arith))
+        (take-all (length l - tailAt l) (drop (tailAt l) l) (omega (arith, length-drop (tailAt l) l)))
+    go false f p q = ns-none r l q

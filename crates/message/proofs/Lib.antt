@@ -1,0 +1,9 @@
+pub mod Types
+pub mod Blocks
+pub mod Fields
+pub mod Room
+pub mod Reading
+pub mod Unique
+pub mod Accepted
+pub mod Bench
+pub mod Revision

@@ -1,0 +1,76 @@
+-- What the contracts fix: by the `ensures` alone no second reply and no second list fits. A refusal leaves the list as it was and tells of no NS.
+-- Assumes nothing.
+use Prim.Native.Nat.{ℕ, _-_}
+use mathlib.Core.Path.{_≡_, refl, sym, ap, _∙_}
+use mathlib.Core.Bool.{Bool, true, false}
+use mathlib.Core.List.{List, []}
+use lib.Dec.{ltb, eqb}
+use lib.ListN.{length}
+use Rattle.octets.specs.Places.{pick}
+use Rattle.octets.proofs.Unique.{one-reply}
+use Rattle.tree.specs.declared.Form.{Form}
+use Rattle.message.specs.Kinds.{known}
+use Rattle.message.specs.Nonstandard.{nsForm}
+use Rattle.message.specs.Reader.{Reading, refused, accepted, readMessage, Reply, readTold, readReply, readLeaves, Reads, spanTold, nsTold}
+use Rattle.message.specs.declared.MessageRead.{MessageRead}
+use Rattle.message.specs.declared.MessageRead.the-variants.{Read, SmallList, BadSize, UnknownType, Malformed}
+
+-- the answer that a reply tells
+abbrev back : Reply → MessageRead
+back p =
+    pick (eqb (p .no) 0) (Read (record { kind = p .kind; revision = p .revision; count = p .count; ns = record { at = p .nsAt; length = p .nsLength } }))
+    (pick (eqb (p .no) 1) SmallList
+    (pick (eqb (p .no) 2) BadSize
+    (pick (eqb (p .no) 3) UnknownType Malformed)))
+
+-- each answer is told by its reply
+back-told : (r : MessageRead) → back (readTold r) ≡ r
+back-told (Read m) = refl
+back-told SmallList = refl
+back-told BadSize = refl
+back-told UnknownType = refl
+back-told Malformed = refl
+
+-- `read_message`: two answers and lists that fit one message are the same
+pub read-unique : (l list₀ : List ℕ) (r r′ : MessageRead) (list₁ list₁′ : List ℕ) → Reads l list₀ r list₁ → Reads l list₀ r′ list₁′ → (r ≡ r′) × (list₁ ≡ list₁′)
+read-unique l list₀ r r′ list₁ list₁′ a b =
+    (sym (back-told r) ∙ ap back (one-reply (a .reply) (b .reply)) ∙ back-told r′, one-reply (a .list) (b .list))
+
+-- an answer that is not success leaves the list as it was
+pub refusal-writes-nothing : (l list₀ : List ℕ) (r : MessageRead) (list₁ : List ℕ) → Reads l list₀ r list₁ → (readTold r .no ≡ 0 → ⊥) → list₁ ≡ list₀
+refusal-writes-nothing l list₀ r list₁ a h = go (readMessage l (length list₀)) (a .reply) (a .list)
+  where
+    go : (x : Reading) → readTold r ≡ readReply x l → list₁ ≡ readLeaves x l list₀ → list₁ ≡ list₀
+    go (refused k) p q = q
+    go accepted p q = absurd (h (ap (λ (y : Reply). y .no) p))
+
+-- where an answer tells of no octet, there is no NS
+pub ns-none : (r : MessageRead) (l : List ℕ) → spanTold r .length ≡ 0 → nsTold r l ≡ []
+unfolding nsTold
+ns-none r l h = rw h (go (ltb (length l) (spanTold r .at)) (ltb (length l - spanTold r .at) 0))
+  where
+    go : (t u : Bool) → pick {A = List ℕ} t [] (pick u [] []) ≡ []
+    go true u = refl
+    go false true = refl
+    go false false = refl
+
+-- and a refusal tells of none
+pub refusal-ns-empty : (r : MessageRead) (l : List ℕ) → (readTold r .no ≡ 0 → ⊥) → nsTold r l ≡ []
+refusal-ns-empty r l h = ns-none r l (go r h)
+  where
+    go : (r : MessageRead) → (readTold r .no ≡ 0 → ⊥) → spanTold r .length ≡ 0
+    go (Read m) h = absurd (h refl)
+    go SmallList h = refl
+    go BadSize h = refl
+    go UnknownType h = refl
+    go Malformed h = refl
+
+-- `is_known`, `ns_form`, and of `ns_part` the octets: each ensures that its reply is one value
+pub known-unique : (kind : ℕ) (r r′ : Bool) → r ≡ known kind → r′ ≡ known kind → r ≡ r′
+known-unique kind r r′ = one-reply
+
+pub ns-form-unique : (l : List ℕ) (start : ℕ) (r r′ : Form) → r ≡ nsForm (length l) l start → r′ ≡ nsForm (length l) l start → r ≡ r′
+ns-form-unique l start r r′ = one-reply
+
+pub ns-part-unique : (l : List ℕ) (answer : MessageRead) (r r′ : List ℕ) → r ≡ nsTold answer l → r′ ≡ nsTold answer l → r ≡ r′
+ns-part-unique l answer r r′ = one-reply

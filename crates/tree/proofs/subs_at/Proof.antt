@@ -1,0 +1,96 @@
+-- `tree::subs_at` meets its contract. The loop's invariant: the blocks that are left, from `e` on, have the form and the end of all.
+-- Assumes nothing.
+use Prim.Native.Nat.{_<_}
+use mathlib.Core.Path.{_≡_, refl, sym, _∙_}
+use borrow.Author.Needs.{needs}
+use borrow.Author.Tests.{not-true, not-false}
+use Rattle.tree.specs.Codes.{subsBehind}
+use Rattle.tree.specs.Form.{subsForm}
+use Rattle.tree.proofs.Forms.{told-as, told-fine, subs-wrong, subs-bad, subs-go, subs-done, subs-open}
+use Rattle.tree.proofs.subs_at.Statement.{statement}
+use Rattle.tree.proofs.subs_at.Tie as tie
+
+abbrev Inv-loop : tie.InvT-loop
+Inv-loop s count start left₀ e₀ left e = (0 < e) × (subsForm left s e ≡ subsForm count s start) × (subsBehind left s e ≡ subsBehind count s start)
+
+abbrev μ-loop : tie.MeasureT-loop
+μ-loop s count start left₀ e₀ left e = left
+
+loop-holds : tie.Need-loop-holds Inv-loop μ-loop
+loop-holds c = (search needs, refl, refl)
+
+bit8-requires : tie.Need-bit8-requires Inv-loop μ-loop
+bit8-requires c κs = search needs
+
+sub-t10 : tie.Need-sub-t10 Inv-loop μ-loop
+sub-t10 c = search needs
+
+returns : tie.Need-returns Inv-loop μ-loop
+returns c =
+    let L = c .before .before .before .loop in
+    told-as (subs-wrong (L .left) _ (L .e) (search needs) (sym (c .before .bit8 .ensures) ∙ c .if1 .taken)) (L .inv .1) (L .inv .2)
+
+block-at-requires : tie.Need-block-at-requires Inv-loop μ-loop
+block-at-requires c κs = search needs
+
+is-fine-requires : tie.Need-is-fine-requires Inv-loop μ-loop
+is-fine-requires c κs = search needs
+
+returns-2 : tie.Need-returns-2 Inv-loop μ-loop
+returns-2 c =
+    let L = c .before .before .before .before .before .before .loop in
+    told-as
+    (subs-bad (L .left) _ (L .e) _ (search needs) (sym (c .before .before .before .before .bit8 .ensures) ∙ c .before .before .before .if1 .left)
+    (c .before .before .block-at .ensures .0) (sym (c .before .is-fine .ensures) ∙ not-true _ (c .if2 .taken)))
+    (L .inv .1) (L .inv .2)
+
+sub-left : tie.Need-sub-left Inv-loop μ-loop
+sub-left c = search needs
+
+loop-less : tie.Need-loop-less Inv-loop μ-loop
+loop-less c = search needs
+
+loop-again : tie.Need-loop-again Inv-loop μ-loop
+loop-again c =
+    let L = c .before .before .before .before .before .before .loop in
+    let B = c .before .before .block-at .ensures in
+    let g = subs-go (L .left) _ (L .e) _ (search needs) (sym (c .before .before .before .before .bit8 .ensures) ∙ c .before .before .before .if1 .left)
+    (told-fine (B .0) (sym (c .before .is-fine .ensures) ∙ not-false _ (c .if2 .left))) (B .1) in
+    (g .0, g .1 ∙ L .inv .1, g .2 ∙ L .inv .2)
+
+bit8-requires-2 : tie.Need-bit8-requires-2 Inv-loop μ-loop
+bit8-requires-2 c κs = search needs
+
+returns-3 : tie.Need-returns-3 Inv-loop μ-loop
+returns-3 c =
+    let L = c .before .before .before .loop in
+    told-as (subs-done (L .left) _ (L .e) (search needs) (sym (c .before .bit82 .ensures) ∙ c .if3 .taken)) (L .inv .1) (L .inv .2)
+
+sub-t15 : tie.Need-sub-t15 Inv-loop μ-loop
+sub-t15 c = search needs
+
+returns-4 : tie.Need-returns-4 Inv-loop μ-loop
+returns-4 c =
+    let L = c .before .before .before .loop in
+    told-as (subs-open (L .left) _ (L .e) (search needs) (sym (c .before .bit82 .ensures) ∙ c .if3 .left)) (L .inv .1) (L .inv .2)
+
+pub subs-at-spec : {M : Type 1} → statement M
+subs-at-spec =
+    tie.close
+    (tie.spec
+    Inv-loop
+    μ-loop
+    loop-holds
+    bit8-requires
+    sub-t10
+    returns
+    block-at-requires
+    is-fine-requires
+    returns-2
+    sub-left
+    loop-less
+    loop-again
+    bit8-requires-2
+    returns-3
+    sub-t15
+    returns-4)

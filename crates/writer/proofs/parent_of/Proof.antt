@@ -1,0 +1,21 @@
+-- `writer::parent_of` meets its contract: its test is that of `parentOf`.
+-- Assumes nothing.
+use borrow.Author.Needs.{needs}
+use borrow.Author.Tests.{lt-ltb, le-ltb}
+use Rattle.writer.proofs.parent_of.Statement.{statement}
+use Rattle.writer.proofs.parent_of.Tie as tie
+
+sub-result : tie.Need-sub-result
+sub-result c = search needs
+
+returns : tie.Need-returns
+returns c = simp (lt-ltb _ _ (c .if1 .taken))
+
+sub-result-2 : tie.Need-sub-result-2
+sub-result-2 c = search needs
+
+returns-2 : tie.Need-returns-2
+returns-2 c = simp (le-ltb _ _ (c .if1 .left))
+
+pub parent-of-spec : {M : Type 1} → statement M
+parent-of-spec = tie.close (tie.spec sub-result returns sub-result-2 returns-2)
