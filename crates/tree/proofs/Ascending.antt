@@ -45,14 +45,17 @@ unfolding Chain
 join lo [] mid b hi c d = lower lo mid b hi c d
 join lo (x ∷ a) mid b hi c d = (c .0, join x a mid b hi (c .1) d)
 
+-- no number is a chain
 none : (lo hi : ℕ) → lo ≤ hi → Chain lo [] hi
 unfolding Chain
 none lo hi h = h
 
+-- a number before a chain
 some : (lo x : ℕ) (l : List ℕ) (hi : ℕ) → lo < x → Chain x l hi → Chain lo (x ∷ l) hi
 unfolding Chain
 some lo x l hi h c = (h, c)
 
+-- and taken off again
 first : (lo x : ℕ) (l : List ℕ) (hi : ℕ) → Chain lo (x ∷ l) hi → (lo < x) × Chain x l hi
 unfolding Chain
 first lo x l hi c = c
@@ -130,6 +133,7 @@ pars-chain b s0 (s ∷ ss) l e h k =
     (join c (numbers 6 64 c l e) (c + 448) _ _ (numbers-chain 6 64 c l e (omega arith) h) (group-chain c l (behind 64 l e) h))
     (pars-chain b s ss l _ h (q .1)))
 
+-- a field
 codes-chain : (b : ℕ) (l : List ℕ) (at : ℕ) → length l ≤ 64 → Chain b (fieldCodes b l at) (b + 117670336)
 unfolding fieldCodes restCodes
 codes-chain b l at h =

@@ -35,6 +35,7 @@ rest b c l m e k = (rw e at k) .1
 
 -- ---- one number
 
+-- one number is below another or not
 split : (a b : ℕ) → (a < b) ⊎ (b ≤ a)
 split a b = go (ltb a b) refl
   where
@@ -46,11 +47,12 @@ split a b = go (ltb a b) refl
 other : (y x : ℕ) → y < x → eqb y x ≡ false
 other y x h = ne-eqb y x (λ (e : y ≡ x). omega arith)
 
--- one number passed over, or reached
+-- a number below the one looked for is passed over
 pub reached-go : (c y : ℕ) (l m : List ℕ) → l ≡ y ∷ m → y < c → reached c l ≡ reached c m
 unfolding reached
 reached-go c y l m e h = rw (e, lt-ltb y c h)
 
+-- one that is not below it is kept
 pub reached-at : (c y : ℕ) (l m : List ℕ) → l ≡ y ∷ m → c ≤ y → reached c l ≡ y ∷ m
 unfolding reached
 reached-at c y l m e h = rw (e, le-ltb y c h)
@@ -69,7 +71,7 @@ pub in-here : (c : ℕ) (l m : List ℕ) → reached c l ≡ c ∷ m → isIn c 
 unfolding isIn
 in-here c l m e = in-reached c l ∙ rw (e, eq-eqb c c refl)
 
--- no number is in a list that ascends from there
+-- a number is not in a list that ascends from it
 in-above : (c b : ℕ) (l : List ℕ) → c ≤ b → Ascending b l → isIn c l ≡ false
 unfolding isIn Ascending
 in-above c b [] h k = refl
@@ -88,12 +90,13 @@ in-absent c b (y ∷ l) k e = ⊎-elim
 
 -- ---- all numbers of a list
 
--- what is below all of them may be left out
+-- a number below all of them may be left out
 all-behind : (y : ℕ) (l m : List ℕ) → Ascending y l → allIn l (y ∷ m) ≡ allIn l m
 unfolding isIn allIn Ascending
 all-behind y [] m k = refl
 all-behind y (x ∷ l) m k = rw (other y x (k .0), all-behind y l m (lower y x l (omega (arith, k .0)) (k .1)))
 
+-- and so may all that are
 all-reached : (c : ℕ) (l m : List ℕ) → Ascending c l → allIn l m ≡ allIn l (reached c m)
 unfolding reached
 all-reached c l [] k = refl

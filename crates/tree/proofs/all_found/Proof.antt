@@ -25,6 +25,7 @@ code-after-requires c κs = c .loop .inv .small
 enum-known-code : tie.Need-enum-known-code Inv-loop μ-loop
 enum-known-code c = search needs
 
+-- the code that `code_after` gave
 gives : (c : tie.After-code Inv-loop μ-loop) →
     let s = c .before .before .before .before .before .before .args .s .now in
     Gives s (codesFrom s (c .before .before .before .loop .v)) (One (c .code .given .0 .0) (c .code .given .0 .1 .0))
@@ -40,13 +41,19 @@ loop-less : tie.Need-loop-less Inv-loop μ-loop
 loop-less c = fewer _ _ _ _ (gives (c .before .before .before .before .before) .0)
 
 loop-again : tie.Need-loop-again Inv-loop μ-loop
-loop-again c = merge-here (c .before .before .before .before .before .before .before .before .loop .inv) (gives (c .before .before .before .before .before)) (rw (c .before .x .given .1) at (c .before .before .before .seek .ensures))
+loop-again c =
+    let f = rw (c .before .x .given .1) at (c .before .before .before .seek .ensures) in
+    let k = c .before .before .before .before .before in
+    merge-here (k .before .before .before .loop .inv) (gives k) f
 
 enum-told : tie.Need-enum-told Inv-loop μ-loop
 enum-told c = search needs
 
 returns : tie.Need-returns Inv-loop μ-loop
-returns c = merge-absent (c .before .before .before .before .before .before .before .loop .inv) (gives (c .before .before .before .before)) (rw (c .enum-told .given .1) at (c .before .before .seek .ensures))
+returns c =
+    let f = rw (c .enum-told .given .1) at (c .before .before .seek .ensures) in
+    let k = c .before .before .before .before in
+    merge-absent (k .before .before .before .loop .inv) (gives k) f
 
 enum-told-2 : tie.Need-enum-told-2 Inv-loop μ-loop
 enum-told-2 c = search needs

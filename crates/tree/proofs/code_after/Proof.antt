@@ -18,10 +18,15 @@ next-above-requires : tie.Need-next-above-requires
 next-above-requires c κs = search needs
 
 returns : tie.Need-returns
-returns c = low-seen _ _ _ (c .before .before .before .before .before .before .before .before .pre) (rw (c .before .x .given .1) at (c .before .before .before .next-low .ensures))
+returns c =
+    let s = rw (c .before .x .given .1) at (c .before .before .before .next-low .ensures) in
+    low-seen _ _ _ (c .before .before .before .before .before .before .before .before .pre) s
 
 returns-2 : tie.Need-returns-2
-returns-2 c = rw (low-over _ (c .before .before .before .before .before .before .before .before .before .args .walk) _ (rw (c .before .before .e .given .1) at (c .before .before .before .before .next-low .ensures))) (c .next-above .ensures)
+returns-2 c =
+    let s = rw (c .before .before .e .given .1) at (c .before .before .before .before .next-low .ensures) in
+    let w = c .before .before .before .before .before .before .before .before .before .args .walk in
+    rw (low-over _ w _ s) (c .next-above .ensures)
 
 pub code-after-spec : {M : Type 1} → statement M
 code-after-spec =

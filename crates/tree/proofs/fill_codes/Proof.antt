@@ -1,4 +1,5 @@
--- `tree::fill_codes` meets its contract. The loop's invariant (`Filled`): the codes so far are stored, as many as there is room for, and those from the cursor on are still to come. The measure is how many these are.
+-- `tree::fill_codes` meets its contract. The loop's invariant (`Filled`): the codes so far are stored, where there is room, and those
+-- from the cursor on are still to come. The measure is how many these are.
 -- Assumes nothing.
 use mathlib.Core.Path.{_≡_, refl, sym, _∙_}
 use mathlib.Core.List.{[], _∷_}
@@ -21,6 +22,7 @@ Inv-loop s at list₀ walk₀ n₀ list walk n = Filled (λ l. l) s walk n n lis
 abbrev μ-loop : tie.MeasureT-loop
 μ-loop s at list₀ walk₀ n₀ list walk n = length (codesFrom s walk)
 
+-- the walk begins at the start of the field
 started : (c : tie.After-start Inv-loop μ-loop) → let a = c .before .before .before .before .before .args in
     Started (a .field) (a .s .now) (a .at) (c .start .result)
 started c = starts _ _ _ _ _ (search needs) (c .before .base-of .ensures) (c .start .ensures)
@@ -44,6 +46,7 @@ code-after-requires c κs = c .loop .inv .small
 enum-known-code : tie.Need-enum-known-code Inv-loop μ-loop
 enum-known-code c = search needs
 
+-- the code that `code_after` gave
 gives : (c : tie.After-code Inv-loop μ-loop) →
     let s = c .before .before .before .before .before .before .before .before .before .args .s .now in
     Gives s (codesFrom s (c .before .before .before .loop .walk)) (One (c .code .given .0 .0) (c .code .given .0 .1 .0))
@@ -61,6 +64,7 @@ add-n c = omega arith
 loop-less : tie.Need-loop-less Inv-loop μ-loop
 loop-less c = fewer _ _ _ _ (gives (c .before .before) .0)
 
+-- where there is no room the list stays as it is
 stored : (c : tie.Joined2 Inv-loop μ-loop) → let l = c .before .before .before .before .before .loop in
     c .if2 .list ≡ set (l .list) (l .n) (c .before .before .code .given .0 .0)
 stored c = ⊎-elim (λ w. w .1) (λ w. w .1 ∙ sym (set-out _ _ _ (w .0 .left))) (c .if2 .came)

@@ -1,4 +1,5 @@
--- `tree::fill_octets` meets its contract. The loop's invariant (`Filled`): the octets of the codes so far are stored, as many as there is room for, and those from the cursor on are still to come. The measure is how many these are.
+-- `tree::fill_octets` meets its contract. The loop's invariant (`Filled`): the octets of the codes so far are stored, where there is room,
+-- and the codes from the cursor on are still to come. The measure is how many these are.
 -- Assumes nothing.
 use Prim.Native.Nat.{_+_, _*_}
 use mathlib.Core.Path.{_≡_, refl, sym}
@@ -20,6 +21,7 @@ Inv-loop s at list₀ walk₀ n₀ list walk n = Filled fours s walk n (n * 4) l
 abbrev μ-loop : tie.MeasureT-loop
 μ-loop s at list₀ walk₀ n₀ list walk n = length (codesFrom s walk)
 
+-- the walk begins at the start of the field
 started : (c : tie.After-start Inv-loop μ-loop) → let a = c .before .before .before .before .before .args in
     Started (a .field) (a .s .now) (a .at) (c .start .result)
 started c = starts _ _ _ _ _ (search needs) (c .before .base-of .ensures) (c .start .ensures)
@@ -43,6 +45,7 @@ code-after-requires c κs = c .loop .inv .small
 enum-known-code : tie.Need-enum-known-code Inv-loop μ-loop
 enum-known-code c = search needs
 
+-- the code that `code_after` gave
 gives : (c : tie.After-code Inv-loop μ-loop) →
     let s = c .before .before .before .before .before .before .before .before .before .args .s .now in
     Gives s (codesFrom s (c .before .before .before .loop .walk)) (One (c .code .given .0 .0) (c .code .given .0 .1 .0))

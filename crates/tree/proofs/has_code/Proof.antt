@@ -8,6 +8,7 @@ use Rattle.tree.proofs.Merging.{in-here, in-absent, walk-ascends}
 use Rattle.tree.proofs.has_code.Statement.{statement}
 use Rattle.tree.proofs.has_code.Tie as tie
 
+-- the walk begins at the start of the field
 started : (c : tie.After-start) → let a = c .before .before .before .before .args in Started (a .field) (a .s .now) (a .at) (c .start .result)
 started c = starts _ _ _ _ _ (search needs) (c .before .base-of .ensures) (c .start .ensures)
 

@@ -8,6 +8,7 @@ use Rattle.tree.proofs.Merging.{walk-ascends}
 use Rattle.tree.proofs.lies_within.Statement.{statement}
 use Rattle.tree.proofs.lies_within.Tie as tie
 
+-- both walks begin at the start of their field
 inner : (c : tie.After-start) → let a = c .before .before .before .before .before .args in Started (a .field) (a .s .now) (a .i) (c .start .result)
 inner c = starts _ _ _ _ _ (search needs) (c .before .base-of .ensures) (c .start .ensures)
 

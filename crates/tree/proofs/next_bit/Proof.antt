@@ -11,6 +11,7 @@ use Rattle.tree.proofs.Walking.{Lowest, lowest}
 use Rattle.tree.proofs.next_bit.Statement.{statement}
 use Rattle.tree.proofs.next_bit.Tie as tie
 
+-- the zeros that are counted stand below the lowest set bit
 found : (a : Scan) → 0 < a .octet → Sound a → Lowest (a .left) (a .num) (a .octet) (trailingZeros 8 (a .octet))
 found a h s = lowest 8 (a .left) (a .num) (a .octet) (omega (arith, s .1)) h (s .0)
 

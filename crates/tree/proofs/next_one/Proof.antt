@@ -8,6 +8,7 @@ use Rattle.tree.proofs.Walking.{one-seen, one-over}
 use Rattle.tree.proofs.next_one.Statement.{statement}
 use Rattle.tree.proofs.next_one.Tie as tie
 
+-- the scan that `next_set` gave
 seen : (c : tie.After-x) → Sees 7 128 (c .before .before .before .before .args .s .now) (c .before .before .before .before .args .one) (At (c .x .given .0 .0))
 seen c = rw (c .x .given .1) at (c .before .before .next-set .ensures)
 

@@ -8,6 +8,7 @@ use Rattle.tree.proofs.Walking.{two-seen, two-over}
 use Rattle.tree.proofs.next_two.Statement.{statement}
 use Rattle.tree.proofs.next_two.Tie as tie
 
+-- the scan that `next_set` gave
 seen : (c : tie.After-y) → Sees 6 64 (c .before .before .before .before .args .s .now) (c .before .before .before .before .args .two) (At (c .y .given .0 .0))
 seen c = rw (c .y .given .1) at (c .before .before .next-set .ensures)
 

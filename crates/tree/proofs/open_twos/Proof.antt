@@ -28,7 +28,9 @@ unfolding reach
 next-two-requires c κs = let p = c .before .before .before .before .before .pre in rw (c .begin .ensures) (p .0, p .1, p .2, p .3, sound-fresh (c .before .before .before .before .before .args .e) 0, omega arith)
 
 returns-2 : tie.Need-returns-2
-returns-2 c = rw (twos-open _ _ _ _ _ (sym (c .before .before .before .before .bit8 .ensures) ∙ c .before .before .before .if1 .left)) (rw (c .before .begin .ensures, c .before .before .block-at .ensures .1) at (c .next-two .ensures))
+returns-2 c =
+    let e = sym (c .before .before .before .before .bit8 .ensures) ∙ c .before .before .before .if1 .left in
+    rw (twos-open _ _ _ _ _ e) (rw (c .before .begin .ensures, c .before .before .block-at .ensures .1) at (c .next-two .ensures))
 
 pub open-twos-spec : {M : Type 1} → statement M
 open-twos-spec =

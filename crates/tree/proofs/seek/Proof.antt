@@ -1,6 +1,8 @@
 -- `tree::seek` meets its contract. The loop's invariant: what is left from the code looked for on is the same for the walk at hand as for the one given. The measure is how many codes are still to come.
 -- Assumes nothing.
+use Prim.Native.Nat.{_≤_}
 use mathlib.Core.Path.{_≡_, refl, sym, _∙_}
+use native.Mathlib.Omega.{arith}
 use borrow.Author.Needs.{needs}
 use borrow.Author.Tests.{ne-eqb}
 use lib.ListN.{length}
@@ -27,6 +29,7 @@ code-after-requires c κs = c .loop .inv .0
 enum-known-c : tie.Need-enum-known-c Inv-loop μ-loop
 enum-known-c c = search needs
 
+-- the code that `code_after` gave
 gives : (c : tie.After-c Inv-loop μ-loop) →
     let s = c .before .before .before .before .before .args .s .now in
     Gives s (codesFrom s (c .before .before .before .loop .walk)) (One (c .c .given .0 .0) (c .c .given .0 .1 .0))
@@ -36,14 +39,16 @@ returns : tie.Need-returns Inv-loop μ-loop
 returns c =
     let g = gives (c .before .before .before) in
     let i = c .before .before .before .before .before .before .loop .inv in
-    (sym (i .1) ∙ reached-at _ _ _ _ (g .0) (c .before .if1 .taken) ∙ rw (c .if2 .taken), g .1)
+    let h : c .before .before .before .before .before .before .before .before .args .code ≤ c .before .before .before .c .given .0 .0 = omega arith in
+    (sym (i .1) ∙ reached-at _ _ _ _ (g .0) h ∙ rw (c .if2 .taken), g .1)
 
 returns-2 : tie.Need-returns-2 Inv-loop μ-loop
 unfolding begins
 returns-2 c =
     let g = gives (c .before .before .before) in
     let i = c .before .before .before .before .before .before .loop .inv in
-    rw (sym (i .1) ∙ reached-at _ _ _ _ (g .0) (c .before .if1 .taken)) (ne-eqb _ _ (c .if2 .left))
+    let h : c .before .before .before .before .before .before .before .before .args .code ≤ c .before .before .before .c .given .0 .0 = omega arith in
+    rw (sym (i .1) ∙ reached-at _ _ _ _ (g .0) h) (ne-eqb _ _ (c .if2 .left))
 
 loop-less : tie.Need-loop-less Inv-loop μ-loop
 loop-less c = fewer _ _ _ _ (gives (c .before .before) .0)

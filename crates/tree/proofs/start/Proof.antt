@@ -1,3 +1,5 @@
+-- `tree::start` meets its contract: by what `begin` ensures of the three scans.
+-- Assumes nothing.
 use borrow.Author.Needs.{needs}
 use Rattle.tree.proofs.start.Statement.{statement}
 use Rattle.tree.proofs.start.Tie as tie
