@@ -20,7 +20,7 @@ use Rattle.octets.specs.Places.{pick}
 use Rattle.tree.specs.Block.{keep, setBits, blockNumbers, blockEnd, behind, announced, ended}
 use Rattle.tree.specs.Codes.{subsBehind, groupBehind, parsBehind, restBehind, fieldBehind}
 use Rattle.tree.specs.Form.{andThen, isFine, blockForm, formAt, lastForm, subsForm, groupForm, parsForm, restForm, fieldForm}
-use Rattle.tree.specs.Walk.{Reaches, formIn}
+use Rattle.tree.specs.Walk.{Reaches, reachOf, formIn}
 use Rattle.tree.specs.declared.Form.{Form}
 use Rattle.tree.specs.declared.Form.the-variants.{Fine, Early, Wrong, Left, BadLength}
 use Rattle.tree.specs.declared.Reach.{Reach}
@@ -401,3 +401,17 @@ field-two l at f =
 -- so it is not empty
 pub field-fits : (l : List ℕ) (at : ℕ) → fieldForm l at ≡ Fine → (at < fieldBehind l at) × (fieldBehind l at ≤ length l)
 field-fits l at f = omega (arith, field-two l at f)
+
+-- what is told of a field, from its form and, where that is fine, its end; and back
+pub reach-fine : {f : Form} {e : ℕ} {r : Reach} → Reaches f e r → isFine (r .form) ≡ true → r ≡ reachOf f e
+reach-fine {f} {e} {r} t z =
+    let g : isFine f ≡ true = sym (ap isFine (t .told)) ∙ z in
+    ap (λ (n : ℕ). record { form = r .form; at = n }) (t .at (is-fine f g)) ∙ ap (λ (x : Form). record { form = x; at = e }) (t .told) ∙ rw g
+
+pub reach-none : {f : Form} {e : ℕ} {r : Reach} → Reaches f e r → isFine (r .form) ≡ false → record { form = r .form; at = 0 } ≡ reachOf f e
+reach-none {f} {e} {r} t z =
+    let g : isFine f ≡ false = sym (ap isFine (t .told)) ∙ z in
+    ap (λ (x : Form). record { form = x; at = 0 }) (t .told) ∙ rw g
+
+pub reach-told : {f : Form} {e : ℕ} {r : Reach} → r ≡ reachOf f e → Reaches f e r
+reach-told {f} {e} {r} q = record { told = ap (λ (x : Reach). x .form) q; at = λ z. ap (λ (x : Reach). x .at) q ∙ rw z }

@@ -10,7 +10,7 @@ use lib.ListN.{length}
 use Rattle.octets.specs.Places.{pick}
 use Rattle.tree.specs.Block.{setBits, numbers, behind}
 use Rattle.tree.specs.Codes.{fieldBase, subCodes, subsBehind, groupCodes, groupBehind, parCodes, restCodes, fieldCodes}
-use Rattle.tree.specs.Form.{fieldForm}
+use Rattle.tree.specs.Form.{isFine, fieldForm}
 use Rattle.tree.specs.declared.Field.{Field}
 use Rattle.tree.specs.declared.Field.the-variants.{Identification, Standard}
 use Rattle.tree.specs.declared.Form.{Form}
@@ -108,10 +108,14 @@ codesIn f l at = pick (ltb 64 (length l)) [] (fieldCodes (baseOf f) l at)
 unfoldable pub formIn : List ℕ → ℕ → Form
 formIn l at = pick (ltb 64 (length l)) (Left 64) (fieldForm l at)
 
--- a form, and where it is fine the place behind
+-- a form, and where it is fine the place behind. Inner
 pub record Reaches (form : Form) (end : ℕ) (r : Reach) : Type 0 where
   pub told : r .form ≡ form
   pub at : form ≡ Fine → r .at ≡ end
+
+-- what is told of a field: its form, and the place behind it, or 0 where it is not fine
+abbrev pub reachOf : Form → ℕ → Reach
+reachOf form end = record { form = form; at = pick (isFine form) end 0 }
 
 -- each number as four octets, lowest first
 unfoldable pub fours : List ℕ → List ℕ

@@ -11,7 +11,7 @@ ghost use Rattle.octets.specs.Places.{pick};
 ghost use Rattle.tree.specs.Block.{setBits, behind, announced, ended};
 ghost use Rattle.tree.specs.Codes.{subsBehind, groupBehind, parsBehind, restBehind, fieldBehind, restCodes, parCodes};
 ghost use Rattle.tree.specs.Form.{isFine, formAt, subsForm, groupForm, parsForm, restForm};
-ghost use Rattle.tree.specs.Walk.{Sound, scanned, reach, Sees, fresh, wide, stop, Small, Gives, codesFrom, above, startAt, baseOf, codesIn, formIn, Reaches, fours, isIn, allIn};
+ghost use Rattle.tree.specs.Walk.{Sound, scanned, reach, Sees, fresh, wide, stop, Small, Gives, codesFrom, above, startAt, baseOf, codesIn, formIn, reachOf, Reaches, fours, isIn, allIn};
 ghost use Rattle.tree.specs.Order.{Ascending};
 ghost use Rattle.tree.specs.Seek.{Seeks};
 
@@ -213,8 +213,8 @@ fn rest_at(s: &[u8], e: usize) -> Reach
     pars_at(s, count, block.at)
 }
 
-// The form of the field at a place, and the place behind it.
-pub fn field_form(s: &[u8], at: usize) -> Reach
+// The form of the field at a place, and where that is fine the place behind it.
+fn field_at(s: &[u8], at: usize) -> Reach
     ensures { λ r. ⌜ Reaches (formIn (now (s .entry)) at) (fieldBehind (now (s .entry)) at) r ⌝ }
 {
     if MOST_OCTETS < s.len() {
@@ -229,6 +229,18 @@ pub fn field_form(s: &[u8], at: usize) -> Reach
         return block;
     }
     rest_at(s, block.at)
+}
+
+// The form of the field at a place, and the place behind it, or 0 where it is not fine.
+pub fn field_form(s: &[u8], at: usize) -> Reach
+    ensures { λ r. ⌜ r ≡ reachOf (formIn (now (s .entry)) at) (fieldBehind (now (s .entry)) at) ⌝ }
+{
+    let reach = field_at(s, at);
+    let form = reach.form;
+    if is_fine(form) {
+        return reach;
+    }
+    Reach { form, at: 0 }
 }
 
 // A place inside a block: where its next octet is, the bits that are left of the octet at hand and how many, the number of the

@@ -6,7 +6,7 @@ use native.Mathlib.Omega.{arith}
 use borrow.Author.Needs.{needs}
 use borrow.Author.Tests.{not-true, not-false}
 use Rattle.tree.specs.Form.{isFine}
-use Rattle.tree.proofs.Forms.{field-fits}
+use Rattle.tree.proofs.Forms.{field-fits, reach-told}
 use Rattle.message.proofs.Fields.{fine-is, first-broken, second-broken, tail-decides}
 use Rattle.message.proofs.fields_form.Statement.{statement}
 use Rattle.message.proofs.fields_form.Tie as tie
@@ -26,7 +26,7 @@ is-fine-requires c κs = search needs
 
 returns : tie.Need-returns
 returns c =
-    first-broken _ (c .before .before .before .before .pre) _ (c .before .before .field-form .ensures)
+    first-broken _ (c .before .before .before .before .pre) _ (reach-told (c .before .before .field-form .ensures))
     (sym (c .before .is-fine .ensures) ∙ not-true _ (c .if1 .taken))
 
 field-form-requires-2 : tie.Need-field-form-requires-2
@@ -39,20 +39,20 @@ returns-2 : tie.Need-returns-2
 returns-2 c =
     let e = c .before .before .before in
     let f = e .before .before in
-    second-broken _ (f .before .before .pre) _ (f .field-form .ensures) (one-fine e) _ (c .before .before .field-form2 .ensures)
+    second-broken _ (f .before .before .pre) _ (reach-told (f .field-form .ensures)) (one-fine e) _ (reach-told (c .before .before .field-form2 .ensures))
     (sym (c .before .is-fine2 .ensures) ∙ not-true _ (c .if2 .taken))
 
 tail-form-requires : tie.Need-tail-form-requires
 tail-form-requires c κs =
     let e = c .before .before .before in
     let f = e .before .before in
-    omega (arith, field-fits _ 1 (fine-is _ (f .before .before .pre) 1 _ (f .field-form .ensures) (one-fine e)))
+    omega (arith, field-fits _ 1 (fine-is _ (f .before .before .pre) 1 _ (reach-told (f .field-form .ensures)) (one-fine e)))
 
 returns-3 : tie.Need-returns-3
 returns-3 c =
     let e = c .before .before .before .before in
     let f = e .before .before in
-    tail-decides _ (f .before .before .pre) _ (f .field-form .ensures) (one-fine e) _ (c .before .before .before .field-form2 .ensures) (two-fine (c .before)) _ (c .tail-form .ensures)
+    tail-decides _ (f .before .before .pre) _ (reach-told (f .field-form .ensures)) (one-fine e) _ (reach-told (c .before .before .before .field-form2 .ensures)) (two-fine (c .before)) _ (c .tail-form .ensures)
 
 pub fields-form-spec : {M : Type 1} → statement M
 fields-form-spec =

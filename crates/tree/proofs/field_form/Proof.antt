@@ -1,46 +1,21 @@
--- `tree::field_form` meets its contract: what is told of NPar(1), and behind it of the rest, is told of the whole; more octets than a
--- message has are refused first.
--- Assumes nothing.
-use mathlib.Core.Path.{refl, sym, _∙_}
+-- `tree::field_form` meets its contract: what is told of the field, and no place where it is not fine. Assumes nothing.
+use mathlib.Core.Path.{sym, _∙_}
 use borrow.Author.Needs.{needs}
-use borrow.Author.Tests.{not-true, not-false}
-use Rattle.tree.specs.Form.{formAt, fieldForm}
-use Rattle.tree.proofs.Forms.{told-as, told-fine, told-bad, field-go, form-in, form-over}
+use Rattle.tree.proofs.Forms.{reach-fine, reach-none}
 use Rattle.tree.proofs.field_form.Statement.{statement}
 use Rattle.tree.proofs.field_form.Tie as tie
 
-returns : tie.Need-returns
-returns c =
-    let f = form-over (c .before .before .args .s .now) (c .before .before .args .at) (c .if1 .taken) in
-    record { told = sym f; at = λ z. cc }
-
-block-at-requires : tie.Need-block-at-requires
-block-at-requires c κs = search needs
+field-at-requires : tie.Need-field-at-requires
+field-at-requires c κs = search needs
 
 is-fine-requires : tie.Need-is-fine-requires
 is-fine-requires c κs = search needs
 
+returns : tie.Need-returns
+returns c = reach-fine (c .before .before .field-at .ensures) (sym (c .before .is-fine .ensures) ∙ c .if1 .taken)
+
 returns-2 : tie.Need-returns-2
-unfolding fieldForm
-returns-2 c =
-    let a = c .before .before .before .before .before .args in
-    told-as
-    (told-bad (formAt 128 (a .s .now) (a .at)) _ _ _ (c .before .before .block-at .ensures .0) (sym (c .before .is-fine .ensures) ∙ not-true _ (c .if2 .taken)))
-    (sym (form-in (a .s .now) (a .at) (c .before .before .before .if1 .left))) refl
-
-rest-at-requires : tie.Need-rest-at-requires
-rest-at-requires c κs = search needs
-
-returns-3 : tie.Need-returns-3
-returns-3 c =
-    let b = c .before .before .before in
-    let a = b .before .before .before .args in
-    told-as
-    (field-go (a .s .now) (a .at) _ _ (told-fine (b .block-at .ensures .0) (sym (c .before .before .is-fine .ensures) ∙ not-false _ (c .before .if2 .left)))
-    (b .block-at .ensures .1) (c .rest-at .ensures))
-    (sym (form-in (a .s .now) (a .at) (b .before .if1 .left))) refl
+returns-2 c = reach-none (c .before .before .field-at .ensures) (sym (c .before .is-fine .ensures) ∙ c .if1 .left)
 
 pub field-form-spec : {M : Type 1} → statement M
-field-form-spec =
-    tie.close
-    (tie.spec returns block-at-requires is-fine-requires returns-2 rest-at-requires returns-3)
+field-form-spec = tie.close (tie.spec field-at-requires is-fine-requires returns returns-2)
