@@ -29,18 +29,25 @@ pub fn malformed(request: Vec<u8>) -> Case {
     Case::new(request, vec![NO_REQUEST], MALFORMED)
 }
 
-/// The well-formed request without its last octets, at every length but 0.
-pub fn cut_short(request: &[u8]) -> Vec<Case> {
-    let lengths = 1..request.len();
-    lengths
-        .map(|length| malformed(request[..length].to_vec()))
-        .collect()
+/// The well-formed requests without their last octets, at every length but 0.
+pub fn cut_short(requests: &[Vec<u8>]) -> Vec<Case> {
+    let beginnings = |request: &Vec<u8>| {
+        let lengths = 1..request.len();
+        lengths
+            .map(|length| malformed(request[..length].to_vec()))
+            .collect::<Vec<Case>>()
+    };
+    requests.iter().flat_map(beginnings).collect()
 }
 
-/// The well-formed request with 1 to 40 octets too many.
-pub fn with_octets_left_over(random: &mut Random, request: &[u8]) -> Vec<Case> {
-    let more = |count| malformed([request, &random.octets(count)].concat());
-    (1..=40).map(more).collect()
+/// The well-formed requests with 1 to 40 octets too many.
+pub fn with_octets_left_over(random: &mut Random, requests: &[Vec<u8>]) -> Vec<Case> {
+    let mut cases = Vec::new();
+    for request in requests {
+        let more = |count| malformed([request.as_slice(), &random.octets(count)].concat());
+        cases.extend((1..=40).map(more));
+    }
+    cases
 }
 
 fn empty(_: &mut Random) -> Vec<Case> {

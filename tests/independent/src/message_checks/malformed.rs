@@ -55,17 +55,12 @@ fn between_well_formed(random: &mut Random, malformed: Vec<Case>) -> Vec<Case> {
 
 fn cut_short(random: &mut Random) -> Vec<Case> {
     let requests = samples(random);
-    let malformed = requests
-        .iter()
-        .flat_map(|request| wire_checks::cut_short(request));
-    between_well_formed(random, malformed.collect())
+    between_well_formed(random, wire_checks::cut_short(&requests))
 }
 
 fn left_over(random: &mut Random) -> Vec<Case> {
-    let mut malformed = Vec::new();
-    for request in samples(random) {
-        malformed.extend(wire_checks::with_octets_left_over(random, &request));
-    }
+    let requests = samples(random);
+    let malformed = wire_checks::with_octets_left_over(random, &requests);
     between_well_formed(random, malformed)
 }
 
