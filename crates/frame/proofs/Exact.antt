@@ -8,7 +8,7 @@ use mathlib.Core.List.{List, [], _∷_, _++_, append-assoc, append-nil}
 use mathlib.Core.Logic.{_⊎_, ⊎-elim}
 use native.Mathlib.Decide.{decLt}
 use native.Mathlib.Omega.{arith}
-use borrow.Author.Tests.{ltb-false, leb-true, not-false, le-ltb, le-leb}
+use borrow.Author.Tests.{ltb-false, leb-true, not-false, le-ltb, le-leb, lt-leb}
 use lib.Dec.{ltb, leb}
 use lib.ListN.{length, take, drop, length-append, take-append-drop, drop-of-length-le}
 use lib.Seq.{take-at, drop-at, length-take-le, take-append-le}
@@ -284,6 +284,19 @@ flags-unframed k = go (decLt mostOpening k)
 pub flags-only-refused : (run : List ℕ) (count room k : ℕ) → take count (bits run) ≡ flags k → count ≤ mostBits → count ≤ length run * 8 → informationRoom ≤ room → readFrame run count room ≡ refused 2
 unfolding alone
 flags-only-refused run count room k e m l r = read-fits run count room m l r ∙ rw (e, flags-unframed k)
+
+-- more than five opening flags are refused with 2, whatever follows
+pub many-flags-refused : (run : List ℕ) (count room k : ℕ) (x : List Bool) → mostOpening < k → take count (bits run) ≡ flags k ++ x → count ≤ mostBits → count ≤ length run * 8
+    → informationRoom ≤ room → readFrame run count room ≡ refused 2
+unfolding alone framed
+many-flags-refused run count room k x h e m l r = read-fits run count room m l r ∙ rw (e, flags-capped k 6 x h)
+
+-- and so are fewer than two, where no flag follows
+pub few-flags-refused : (run : List ℕ) (count room k : ℕ) (x : List Bool) → k < fewestOpening → starts flag x ≡ false → take count (bits run) ≡ flags k ++ x → count ≤ mostBits
+    → count ≤ length run * 8 → informationRoom ≤ room → readFrame run count room ≡ refused 2
+unfolding alone framed
+few-flags-refused run count room k x h s e m l r =
+    read-fits run count room m l r ∙ rw (e, flags-counted k 6 x (omega arith) s, lt-leb fewestOpening k h)
 
 -- a frame is refused with bits behind it that are not one more closing flag
 pub leftover-refused : (run : List ℕ) (count room : ℕ) (info : List ℕ) (opening closing : ℕ) (b : Bool) (extra : List Bool) → take count (bits run) ≡ frame info opening closing ++ (b ∷ extra)
