@@ -1,11 +1,11 @@
 -- What success tells: the message is well-formed, the list has its codes and nothing else new, and the NS told of is the NS of the message.
 -- Assumes nothing.
-use Prim.Native.Nat.{ℕ, suc, _-_, _≤_}
+use Prim.Native.Nat.{ℕ, suc, _-_, _<_, _≤_}
 use mathlib.Core.Path.{_≡_, refl, sym, ap, _∙_}
 use mathlib.Core.Bool.{Bool, true, false, not}
 use mathlib.Core.List.{List, []}
 use native.Mathlib.Omega.{arith}
-use borrow.Author.Tests.{le-ltb}
+use borrow.Author.Tests.{le-ltb, ltb-false, eqb-false, not-false}
 use lib.Dec.{ltb, eqb}
 use lib.ListN.{length, drop, length-drop}
 use lib.Seq.{take-all}
@@ -22,17 +22,17 @@ use Rattle.message.proofs.Fields.{parts-fit}
 use Rattle.message.proofs.Reading.{form-fields}
 use Rattle.message.proofs.Unique.{ns-none}
 
--- success: the last check is passed, and no refusal has the number 0
-Passes : Reading → Form → Type 0
-Passes x f = (x ≡ accepted → f ≡ Fine) × (x ≡ refused 0 → ⊥)
+-- success tells that P holds, and no refusal has the number 0
+Passes : Reading → Type 0 → Type 0
+Passes x P = (x ≡ accepted → P) × (x ≡ refused 0 → ⊥)
 
--- what a test with a number other than 0 lets through passes
-passes-if : (t : Bool) (k : ℕ) (x : Reading) (f : Form) → Passes x f → Passes (refusedIf t (suc k) x) f
+-- a test whose number is not 0 keeps that, and success tells that it was passed too
+passes-if : (t : Bool) (k : ℕ) (x : Reading) (P : Type 0) → Passes x P → Passes (refusedIf t (suc k) x) ((t ≡ false) × P)
 unfolding Passes
-passes-if true k x f h = (λ e. cc, λ e. let z : suc k ≡ 0 = cc in omega arith)
-passes-if false k x f h = h
+passes-if true k x P h = (λ e. absurd (let z : _≡_ {A = ℕ} 0 1 = cc in omega arith), λ e. let z : suc k ≡ 0 = cc in omega arith)
+passes-if false k x P h = (λ e. (refl, h .0 e), h .1)
 
-passes-form : (f : Form) → Passes (judged f) f
+passes-form : (f : Form) → Passes (judged f) (f ≡ Fine)
 unfolding Passes
 passes-form Fine = (λ e. refl, λ e. let z : _≡_ {A = ℕ} 0 1 = cc in omega arith)
 passes-form (Early i) = (λ e. cc, λ e. let z : _≡_ {A = ℕ} 4 0 = cc in omega arith)
@@ -40,7 +40,9 @@ passes-form (Wrong i) = (λ e. cc, λ e. let z : _≡_ {A = ℕ} 4 0 = cc in ome
 passes-form (Left i) = (λ e. cc, λ e. let z : _≡_ {A = ℕ} 4 0 = cc in omega arith)
 passes-form (BadLength i) = (λ e. cc, λ e. let z : _≡_ {A = ℕ} 4 0 = cc in omega arith)
 
-passes : (l : List ℕ) (room : ℕ) → Passes (readMessage l room) (messageForm l)
+passes : (l : List ℕ) (room : ℕ)
+    → Passes (readMessage l room)
+    ((ltb room listRoom ≡ false) × ((eqb (length l) 0 ≡ false) × ((ltb mostOctets (length l) ≡ false) × ((not (known (typeOf l)) ≡ false) × (messageForm l ≡ Fine)))))
 unfolding readMessage
 passes l room =
     passes-if (ltb room listRoom) 0 _ _
@@ -48,15 +50,37 @@ passes l room =
     (passes-if (ltb mostOctets (length l)) 1 _ _
     (passes-if (not (known (typeOf l))) 2 _ _ (passes-form (messageForm l)))))
 
--- a message that is accepted is well-formed
-pub accepted-fine : (l : List ℕ) (room : ℕ) → readMessage l room ≡ accepted → messageForm l ≡ Fine
+-- a message that is accepted has passed each check
+pub record Passed (l : List ℕ) : Type 0 where
+  pub some : 0 < length l
+  pub few : length l ≤ mostOctets
+  pub kind : known (typeOf l) ≡ true
+  pub form : messageForm l ≡ Fine
+
+pub accepted-passed : (l : List ℕ) (room : ℕ) → readMessage l room ≡ accepted → Passed l
 unfolding Passes
-accepted-fine l room = passes l room .0
+accepted-passed l room e =
+    let p = passes l room .0 e .1 in
+    let q = p .1 in
+    record {
+      some = omega (arith, eqb-false (length l) 0 (p .0));
+      few = ltb-false mostOctets (length l) (q .0);
+      kind = not-false (known (typeOf l)) (q .1 .0);
+      form = q .1 .1;
+    }
+
+-- it is well-formed
+pub accepted-fine : (l : List ℕ) (room : ℕ) → readMessage l room ≡ accepted → messageForm l ≡ Fine
+accepted-fine l room e = accepted-passed l room e .form
+
+-- no refusal has the number of success
+pub never-zero : (l : List ℕ) (room : ℕ) → readMessage l room ≡ refused 0 → ⊥
+unfolding Passes
+never-zero l room = passes l room .1
 
 -- an answer that is success is that of an accepted message
 pub success-accepted : (l list₀ : List ℕ) (r : MessageRead) (list₁ : List ℕ) → Reads l list₀ r list₁ → readTold r .no ≡ 0 → readMessage l (length list₀) ≡ accepted
-unfolding Passes
-success-accepted l list₀ r list₁ a h = go (readMessage l (length list₀)) (passes l (length list₀) .1) (a .reply)
+success-accepted l list₀ r list₁ a h = go (readMessage l (length list₀)) (never-zero l (length list₀)) (a .reply)
   where
     go : (x : Reading) → (x ≡ refused 0 → ⊥) → readTold r ≡ readReply x l → x ≡ accepted
     go (refused k) n p = absurd (n (ap refused (sym (ap (λ (y : Reply). y .no) p) ∙ h)))

@@ -3,7 +3,10 @@ pub mod Blocks
 pub mod Fields
 pub mod Room
 pub mod Reading
+pub mod Checking
 pub mod Unique
 pub mod Accepted
+pub mod Checked
+pub mod Parting
 pub mod Bench
 pub mod Revision

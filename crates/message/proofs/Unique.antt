@@ -9,9 +9,13 @@ use lib.ListN.{length}
 use Rattle.octets.specs.Places.{pick}
 use Rattle.octets.proofs.Unique.{one-reply}
 use Rattle.tree.specs.declared.Form.{Form}
+use Rattle.message.specs.Check.{Finding, checkTold, checkMessage}
 use Rattle.message.specs.Kinds.{known}
 use Rattle.message.specs.Nonstandard.{nsForm}
 use Rattle.message.specs.Reader.{Reading, refused, accepted, readMessage, Reply, readTold, readReply, readLeaves, Reads, spanTold, nsTold}
+use Rattle.message.specs.declared.MessageCheck.{MessageCheck}
+use Rattle.message.specs.declared.MessageCheck.the-variants.{Parted}
+use Rattle.message.specs.declared.MessageCheck.the-variants as check
 use Rattle.message.specs.declared.MessageRead.{MessageRead}
 use Rattle.message.specs.declared.MessageRead.the-variants.{Read, SmallList, BadSize, UnknownType, Malformed}
 
@@ -35,6 +39,27 @@ back-told Malformed = refl
 pub read-unique : (l list₀ : List ℕ) (r r′ : MessageRead) (list₁ list₁′ : List ℕ) → Reads l list₀ r list₁ → Reads l list₀ r′ list₁′ → (r ≡ r′) × (list₁ ≡ list₁′)
 read-unique l list₀ r r′ list₁ list₁′ a b =
     (sym (back-told r) ∙ ap back (one-reply (a .reply) (b .reply)) ∙ back-told r′, one-reply (a .list) (b .list))
+
+-- the answer that a finding tells
+abbrev answer : Finding → MessageCheck
+answer f =
+    pick (eqb (f .no) 0) (Parted (record { kind = f .kind; standard = f .standard; tail = f .tail }))
+    (pick (eqb (f .no) 2) check.BadSize
+    (pick (eqb (f .no) 3) check.UnknownType check.Malformed))
+
+answer-told : (r : MessageCheck) → answer (checkTold r) ≡ r
+answer-told (Parted p) = refl
+answer-told check.BadSize = refl
+answer-told check.UnknownType = refl
+answer-told check.Malformed = refl
+
+-- two answers that tell the same are the same
+pub told-injective : (r r′ : MessageCheck) → checkTold r ≡ checkTold r′ → r ≡ r′
+told-injective r r′ e = sym (answer-told r) ∙ ap answer e ∙ answer-told r′
+
+-- `check_message`: two answers that fit one message are the same
+pub check-unique : (l : List ℕ) (r r′ : MessageCheck) → checkTold r ≡ checkMessage l → checkTold r′ ≡ checkMessage l → r ≡ r′
+check-unique l r r′ e e′ = told-injective r r′ (one-reply e e′)
 
 -- an answer that is not success leaves the list as it was
 pub refusal-writes-nothing : (l list₀ : List ℕ) (r : MessageRead) (list₁ : List ℕ) → Reads l list₀ r list₁ → (readTold r .no ≡ 0 → ⊥) → list₁ ≡ list₀

@@ -1,3 +1,4 @@
 pub mod Kinds
 pub mod Nonstandard
 pub mod Reader
+pub mod Check

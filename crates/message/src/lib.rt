@@ -7,6 +7,7 @@ ghost use Rattle.octets.specs.Places.{pick};
 ghost use Rattle.message.specs.Kinds.{known, hasFields, typeOf};
 ghost use Rattle.message.specs.Nonstandard.{nsAnnounced, nsForm, tailForm};
 ghost use Rattle.message.specs.Reader.{mostOctets, listRoom, Reads, nsTold, spanTold, Shapes};
+ghost use Rattle.message.specs.Check.{checkTold, checkMessage};
 use tree::Field;
 use tree::Form;
 use tree::field_form;
@@ -152,23 +153,86 @@ fn ns_span(s: &[u8], tail: usize) -> Span
     Span { at: 0, length: 0 }
 }
 
-// Reads a message with fields: first its form, then its codes into the list.
-fn read_fields(s: &[u8], list: &mut [u32]) -> MessageRead
-    requires { ⌜ (0 < length (now s)) × (length (now s) ≤ mostOctets) × (listRoom ≤ length (now list)) × (known (typeOf (now s)) ≡ true) × (hasFields (typeOf (now s)) ≡ true) ⌝ }
-    ensures { λ r. ⌜ Reads (now (s .entry)) (now (list .entry)) r (now (list .exit)) ⌝ }
+// A well-formed message: its type, and where S and what is behind S begin. An ACK and a NAK have neither.
+pub struct Parts {
+    pub kind: u8,
+    pub standard: usize,
+    pub tail: usize,
+}
+
+// What a message is found to be.
+pub enum MessageCheck {
+    Parted(Parts),
+    BadSize,
+    UnknownType,
+    Malformed,
+}
+
+// A message with fields: its form decides.
+fn check_fields(s: &[u8]) -> MessageCheck
+    requires { ⌜ (0 < length (now s)) × (length (now s) ≤ mostOctets) × (known (typeOf (now s)) ≡ true) × (hasFields (typeOf (now s)) ≡ true) ⌝ }
+    ensures { λ r. ⌜ checkTold r ≡ checkMessage (now (s .entry)) ⌝ }
 {
     let shape = fields_form(s);
     let form = shape.form;
     if !is_fine(form) {
-        return MessageRead::Malformed;
+        return MessageCheck::Malformed;
     }
-    let standard = shape.standard;
-    let n = fill_codes(s, 1, Field::Identification, list);
-    let k = fill_codes(s, standard, Field::Standard, &mut list[n..]);
-    let ns = ns_span(s, shape.tail);
-    MessageRead::Read(Message {
+    MessageCheck::Parted(Parts {
         kind: s[0] % 16,
-        revision: s[0] / 16,
+        standard: shape.standard,
+        tail: shape.tail,
+    })
+}
+
+// Whether a message is well-formed, and where its parts begin: refusals 2 to 4 of the message reader.
+pub fn check_message(s: &[u8]) -> MessageCheck
+    ensures { λ r. ⌜ checkTold r ≡ checkMessage (now (s .entry)) ⌝ }
+{
+    if s.len() == 0 {
+        return MessageCheck::BadSize;
+    }
+    if MOST_OCTETS < s.len() {
+        return MessageCheck::BadSize;
+    }
+    let kind = s[0] % 16;
+    if !is_known(kind) {
+        return MessageCheck::UnknownType;
+    }
+    if kind < 4 {
+        return check_fields(s);
+    }
+    if s.len() != 1 {
+        return MessageCheck::Malformed;
+    }
+    MessageCheck::Parted(Parts {
+        kind,
+        standard: 1,
+        tail: 1,
+    })
+}
+
+// Reads a well-formed message, whose parts are known: its codes into the list.
+fn read_parts(s: &[u8], parts: Parts, list: &mut [u32]) -> MessageRead
+    requires { ⌜ (checkTold (MessageCheck.Parted parts) ≡ checkMessage (now s)) × (listRoom ≤ length (now list)) ⌝ }
+    ensures { λ r. ⌜ Reads (now (s .entry)) (now (list .entry)) r (now (list .exit)) ⌝ }
+{
+    let kind = parts.kind;
+    let revision = s[0] / 16;
+    if 4 <= kind {
+        return MessageRead::Read(Message {
+            kind,
+            revision,
+            count: 0,
+            ns: Span { at: 0, length: 0 },
+        });
+    }
+    let n = fill_codes(s, 1, Field::Identification, list);
+    let k = fill_codes(s, parts.standard, Field::Standard, &mut list[n..]);
+    let ns = ns_span(s, parts.tail);
+    MessageRead::Read(Message {
+        kind,
+        revision,
         count: n + k,
         ns,
     })
@@ -181,28 +245,12 @@ pub fn read_message(s: &[u8], list: &mut [u32]) -> MessageRead
     if list.len() < LIST_ROOM {
         return MessageRead::SmallList;
     }
-    if s.len() == 0 {
-        return MessageRead::BadSize;
+    match check_message(s) {
+        MessageCheck::Parted(parts) => read_parts(s, parts, list),
+        MessageCheck::BadSize => MessageRead::BadSize,
+        MessageCheck::UnknownType => MessageRead::UnknownType,
+        MessageCheck::Malformed => MessageRead::Malformed,
     }
-    if MOST_OCTETS < s.len() {
-        return MessageRead::BadSize;
-    }
-    let kind = s[0] % 16;
-    if !is_known(kind) {
-        return MessageRead::UnknownType;
-    }
-    if kind < 4 {
-        return read_fields(s, list);
-    }
-    if s.len() != 1 {
-        return MessageRead::Malformed;
-    }
-    MessageRead::Read(Message {
-        kind,
-        revision: s[0] / 16,
-        count: 0,
-        ns: Span { at: 0, length: 0 },
-    })
 }
 
 // Where an answer says that NS lies; a refusal says nowhere.

@@ -156,3 +156,9 @@ field-ascending f l at = go (ltb 64 (length l)) refl
     go : (t : Bool) → ltb 64 (length l) ≡ t → Ascending (baseOf f) (pick t [] (fieldCodes (baseOf f) l at))
     go true e = tt
     go false e = codes-ascending (baseOf f) l at (ltb-false 64 (length l) e)
+
+-- the numbers of a block in a message's octets ascend, and are at most 448 above what they stand above
+pub numbers-between : (w m p : ℕ) (l : List ℕ) (e : ℕ) → w ≤ 7 → length l ≤ 64 → Ascending p (numbers w m p l e) × AllBelow (p + 449) (numbers w m p l e)
+numbers-between w m p l e v h =
+    let k = numbers-chain w m p l e v h in
+    (rises p (numbers w m p l e) (p + 448) k, stays p (numbers w m p l e) (p + 448) (p + 449) (omega arith) k)

@@ -20,7 +20,7 @@ use Rattle.octets.specs.Places.{pick}
 use Rattle.tree.specs.Block.{keep, setBits, blockNumbers, blockEnd, behind, announced, ended}
 use Rattle.tree.specs.Codes.{subsBehind, groupBehind, parsBehind, restBehind, fieldBehind}
 use Rattle.tree.specs.Form.{andThen, isFine, blockForm, formAt, lastForm, subsForm, groupForm, parsForm, restForm, fieldForm}
-use Rattle.tree.specs.Walk.{Reaches, reachOf, formIn}
+use Rattle.tree.specs.Walk.{Reaches, reachOf, formIn, groupIn}
 use Rattle.tree.specs.declared.Form.{Form}
 use Rattle.tree.specs.declared.Form.the-variants.{Fine, Early, Wrong, Left, BadLength}
 use Rattle.tree.specs.declared.Reach.{Reach}
@@ -251,14 +251,26 @@ unfolding subsForm
 subs-bad zero l e r h b p q = absurd (omega arith)
 subs-bad (suc k) l e r h b p q = rw b (told-bad (formAt 64 l e) _ _ r p q)
 
+-- the end of blocks is that of the others, from behind the next one on
+pub subs-next : (k : ℕ) (l : List ℕ) (e n : ℕ) → 0 < k → n ≡ behind 64 l e → subsBehind (k - 1) l n ≡ subsBehind k l e
+unfolding subsBehind
+subs-next zero l e n h p = absurd (omega arith)
+subs-next (suc k) l e n h p = let z : suc k - 1 ≡ k = omega arith in rw (z, p)
+
+-- and behind the last it is here
+pub subs-end : (k : ℕ) (l : List ℕ) (e : ℕ) → k ≤ 0 → subsBehind k l e ≡ e
+unfolding subsBehind
+subs-end zero l e h = refl
+subs-end (suc k) l e h = absurd (omega arith)
+
 -- behind a well-formed block follow the others
 pub subs-go : (k : ℕ) (l : List ℕ) (e n : ℕ) → 0 < k → ended l e ≡ false → formAt 64 l e ≡ Fine → n ≡ behind 64 l e
     → (0 < n) × (subsForm (k - 1) l n ≡ subsForm k l e) × (subsBehind (k - 1) l n ≡ subsBehind k l e)
-unfolding subsForm subsBehind
+unfolding subsForm
 subs-go zero l e n h b f p = absurd (omega arith)
 subs-go (suc k) l e n h b f p =
     let z : suc k - 1 ≡ k = omega arith in
-    (omega (arith, fine-behind 64 l e f), rw (z, p, b, f), rw (z, p))
+    (omega (arith, fine-behind 64 l e f), rw (z, p, b, f), subs-next (suc k) l e n h p)
 
 -- bit 8 stands behind the last block
 pub subs-done : (k : ℕ) (l : List ℕ) (e : ℕ) → k ≤ 0 → ended l e ≡ true
@@ -349,6 +361,16 @@ form-in l at h = rw (le-ltb 64 (length l) h)
 pub form-over : (l : List ℕ) (at : ℕ) → 64 < length l → formIn l at ≡ Left 64
 unfolding formIn
 form-over l at h = rw (lt-ltb 64 (length l) h)
+
+-- in a message's octets what stands in a Par(2) block ends as it does there
+pub group-in : (l : List ℕ) (e : ℕ) → length l ≤ 64 → groupIn l e ≡ groupBehind l e
+unfolding groupIn
+group-in l e h = rw (le-ltb 64 (length l) h)
+
+-- of more octets none is passed
+pub group-over : (l : List ℕ) (e : ℕ) → 64 < length l → groupIn l e ≡ e
+unfolding groupIn
+group-over l e h = rw (lt-ltb 64 (length l) h)
 
 -- ---- a well-formed field lies within the octets
 

@@ -4,4 +4,6 @@ pub mod Few
 pub mod Ascending
 pub mod Filling
 pub mod Merging
+pub mod Within
+pub mod Modes
 pub mod Vectors

@@ -130,3 +130,12 @@ isIn x (y ∷ l) = pick (eqb y x) true (isIn x l)
 unfoldable pub allIn : List ℕ → List ℕ → Bool
 allIn [] m = true
 allIn (x ∷ l) m = pick (isIn x m) (allIn l m) false
+
+-- a list of codes has an SPar(1)
+unfoldable pub hasSpar : List ℕ → Bool
+hasSpar [] = false
+hasSpar (c ∷ l) = pick (ltb 0 (c / 262144 % 512)) true (hasSpar l)
+
+-- the place behind what stands in a Par(2) block behind its NPar(2), which ends before e; in more octets than a message has, e
+unfoldable pub groupIn : List ℕ → ℕ → ℕ
+groupIn l e = pick (ltb 64 (length l)) e (groupBehind l e)

@@ -11,7 +11,7 @@ ghost use Rattle.octets.specs.Places.{pick};
 ghost use Rattle.tree.specs.Block.{setBits, behind, announced, ended};
 ghost use Rattle.tree.specs.Codes.{subsBehind, groupBehind, parsBehind, restBehind, fieldBehind, restCodes, parCodes};
 ghost use Rattle.tree.specs.Form.{isFine, formAt, subsForm, groupForm, parsForm, restForm};
-ghost use Rattle.tree.specs.Walk.{Sound, scanned, reach, Sees, fresh, wide, stop, Small, Gives, codesFrom, above, startAt, baseOf, codesIn, formIn, reachOf, Reaches, fours, isIn, allIn};
+ghost use Rattle.tree.specs.Walk.{Sound, scanned, reach, Sees, fresh, wide, stop, Small, Gives, codesFrom, above, startAt, baseOf, codesIn, formIn, reachOf, Reaches, fours, isIn, allIn, hasSpar, groupIn};
 ghost use Rattle.tree.specs.Order.{Ascending};
 ghost use Rattle.tree.specs.Seek.{Seeks};
 
@@ -92,7 +92,7 @@ fn ones_in(s: &[u8], m: u8, w: usize, e: usize) -> usize
 }
 
 // Bit 8 of the octet before a place; behind the end it is not set.
-fn bit8(s: &[u8], e: usize) -> bool
+pub fn bit8(s: &[u8], e: usize) -> bool
     ensures { λ r. ⌜ r ≡ ended (now (s .entry)) e ⌝ }
 {
     let mut i = 0usize;
@@ -462,7 +462,7 @@ fn code_after(s: &[u8], walk: Walk) -> Found
 }
 
 // What the codes of a field stand above.
-fn base_of(field: Field) -> u32
+pub fn base_of(field: Field) -> u32
     ensures { λ r. ⌜ r ≡ baseOf field ⌝ }
 {
     match field {
@@ -649,4 +649,50 @@ pub fn lies_within(s: &[u8], i: usize, t: &[u8], j: usize, field: Field) -> bool
         return is_over(s, inner);
     }
     all_found(s, inner, t, start(j, base))
+}
+
+// Whether the standard field at a place has an SPar(1): whether its SPar(1) block announces anything.
+pub fn has_spar(s: &[u8], at: usize) -> bool
+    ensures { λ r. ⌜ r ≡ hasSpar (codesIn Field.Standard (now (s .entry)) at) ⌝ }
+{
+    if MOST_OCTETS < s.len() {
+        return false;
+    }
+    let block = block_at(s, 128, at);
+    0 < ones_in(s, 128, 7, block.at)
+}
+
+// The place behind the block at a place, below level 1.
+pub fn block_behind(s: &[u8], e: usize) -> usize
+    ensures { λ r. ⌜ r ≡ behind 64 (now (s .entry)) e ⌝ }
+{
+    let block = block_at(s, 64, e);
+    block.at
+}
+
+// The place behind blocks below level 1, count of them.
+fn blocks_behind(s: &[u8], count: usize, start: usize) -> usize
+    ensures { λ r. ⌜ r ≡ subsBehind count (now (s .entry)) start ⌝ }
+{
+    let mut left = count;
+    let mut e = start;
+    while 0 < left {
+        e = block_behind(s, e);
+        left -= 1;
+    }
+    e
+}
+
+// The place behind what stands in a Par(2) block behind its NPar(2), which ends before a place.
+pub fn group_behind(s: &[u8], e: usize) -> usize
+    ensures { λ r. ⌜ r ≡ groupIn (now (s .entry)) e ⌝ }
+{
+    if MOST_OCTETS < s.len() {
+        return e;
+    }
+    if bit8(s, e) {
+        return e;
+    }
+    let count = ones_in(s, 64, 6, e);
+    blocks_behind(s, count, block_behind(s, e))
 }

@@ -1,0 +1,9 @@
+pub mod Sieving
+pub mod Arms
+pub mod Blocks
+pub mod Rows
+pub mod Strictness
+pub mod Parentage
+pub mod Bounds
+pub mod Positions
+pub mod NamesUnique

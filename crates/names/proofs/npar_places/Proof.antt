@@ -1,0 +1,58 @@
+-- `names::npar_places` meets its contract: the standard positions are the named ones but the non-standard ones.
+-- Assumes nothing.
+use native.Mathlib.Omega.{arith}
+use borrow.Author.Needs.{needs}
+use Rattle.names.specs.Tables.{nparBlocks}
+use Rattle.names.specs.Named.{rowsUnder}
+use Rattle.names.specs.Masks.{nparPlaces}
+use Rattle.names.proofs.Rows.{mask-named, mask-standard}
+use Rattle.names.proofs.npar_places.Statement.{statement}
+use Rattle.names.proofs.npar_places.Tie as tie
+
+enum-told : tie.Need-enum-told
+enum-told c = search needs
+
+enum-told-2 : tie.Need-enum-told-2
+enum-told-2 c = search needs
+
+npar-names-requires : tie.Need-npar-names-requires
+npar-names-requires c κs = search needs
+
+enum-told-3 : tie.Need-enum-told-3
+enum-told-3 c = search needs
+
+npar-names-requires-2 : tie.Need-npar-names-requires-2
+npar-names-requires-2 c κs = search needs
+
+non-standards-requires : tie.Need-non-standards-requires
+non-standards-requires c κs = search needs
+
+sub-t7 : tie.Need-sub-t7
+sub-t7 c = omega (arith, c .before .npar-names2 .ensures, c .non-standards .ensures, mask-named (rowsUnder (c .before .before .before .before .args .under) nparBlocks))
+
+returns : tie.Need-returns
+unfolding nparPlaces
+returns c = rw (c .enum-told .given .1)
+
+returns-2 : tie.Need-returns-2
+unfolding nparPlaces
+returns-2 c = rw (c .before .enum-told2 .given .1, c .npar-names .ensures)
+
+returns-3 : tie.Need-returns-3
+unfolding nparPlaces
+returns-3 c = rw (c .before .before .enum-told3 .given .1, c .before .npar-names2 .ensures, c .non-standards .ensures, mask-standard)
+
+pub npar-places-spec : {M : Type 1} → statement M
+npar-places-spec =
+    tie.close
+    (tie.spec
+    enum-told
+    enum-told-2
+    npar-names-requires
+    enum-told-3
+    npar-names-requires-2
+    non-standards-requires
+    sub-t7
+    returns
+    returns-2
+    returns-3)

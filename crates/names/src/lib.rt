@@ -1,0 +1,157 @@
+// The named parameters of V.8 bis, Tables 5-1 to 5-3 and 6-1 to 6-10: for a block of parameters, which of its positions are kept when
+// a field is rewritten. No table is held: a block's names are one number with a bit for each position.
+ghost use mathlib.Core.Path.{_≡_};
+ghost use Prim.Native.Nat.{_+_, _*_};
+ghost use Rattle.tree.specs.Codes.{codeOf};
+ghost use Rattle.names.specs.Tables.{nparBlocks, sparBlocks};
+ghost use Rattle.names.specs.Named.{rowsUnder, isNamed, isNonStandard};
+ghost use Rattle.names.specs.Masks.{maskOf, nparPlaces, sparPlaces};
+
+// The SPar(1) positions of I begin at 512, those of S at 1024, in units of a code's s.
+const STANDARD: u32 = 1024;
+
+// What is kept of a field: all, the named parameters, or those of them that are no non-standard bits.
+pub enum Keep {
+    All,
+    Named,
+    Standard,
+}
+
+// The positions of a block that are kept: all, or those whose bits are set, position 1 the lowest.
+pub struct Places {
+    pub all: bool,
+    pub bits: u32,
+}
+
+// The named NPar(2) positions under an SPar(1) of S, NPar(1) for 0: Tables 6-1 and 6-3 to 6-10.
+fn standard_names(s: u32) -> u32
+    ensures { λ r. ⌜ r ≡ maskOf isNamed (rowsUnder (codeOf 2 s 0 0) nparBlocks) ⌝ }
+{
+    match s {
+        0 => 0x40,
+        1 => 0x1FFDFF,
+        2 => 0x7FFB,
+        3 => 0x27,
+        4 => 0x23,
+        5 => 0x9FF,
+        6 => 0x27,
+        7 => 0x27,
+        8 => 0x27,
+        9 => 0x3FFFFFF8,
+        10.. => 0,
+    }
+}
+
+// The named NPar positions of the block that stands under a code.
+fn npar_names(under: u32) -> u32
+    ensures { λ r. ⌜ r ≡ maskOf isNamed (rowsUnder under nparBlocks) ⌝ }
+{
+    let group = under / 262144;
+    let below = under % 262144;
+    if below == 512 {
+        if group == STANDARD + 3 {
+            return 0x7F;
+        }
+        if group == STANDARD + 8 {
+            return 0x7F;
+        }
+        return 0;
+    }
+    if below != 0 {
+        return 0;
+    }
+    if group == 512 {
+        return 0x4F;
+    }
+    if group == 513 {
+        return 0x27;
+    }
+    if group < STANDARD {
+        return 0;
+    }
+    standard_names(group - STANDARD)
+}
+
+// The non-standard ones among them: bit 7 at level 1, bit 6 below, of T.30 facsimile also bit 12.
+fn non_standards(under: u32) -> u32
+    ensures { λ r. ⌜ r ≡ maskOf isNonStandard (rowsUnder under nparBlocks) ⌝ }
+{
+    let group = under / 262144;
+    if under % 262144 != 0 {
+        return 0;
+    }
+    if group == 512 {
+        return 0x40;
+    }
+    if group == 513 {
+        return 0x20;
+    }
+    if group < STANDARD {
+        return 0;
+    }
+    match group - STANDARD {
+        0 => 0x40,
+        1 => 0x20,
+        2 => 0x20,
+        3 => 0x20,
+        4 => 0x20,
+        5 => 0x820,
+        6 => 0x20,
+        7 => 0x20,
+        8 => 0x20,
+        9.. => 0,
+    }
+}
+
+// The named SPar positions of the block that stands under a code; none of them is non-standard.
+fn spar_names(under: u32) -> u32
+    ensures { λ r. ⌜ r ≡ maskOf isNamed (rowsUnder under sparBlocks) ⌝ }
+{
+    if under == 512 * 262144 {
+        return 0x01;
+    }
+    if under == STANDARD * 262144 {
+        return 0x1FF;
+    }
+    if under == (STANDARD + 3) * 262144 {
+        return 0x01;
+    }
+    if under == (STANDARD + 8) * 262144 {
+        return 0x01;
+    }
+    0
+}
+
+// The NPar positions that are kept of the block that stands under a code.
+pub fn npar_places(keep: Keep, under: u32) -> Places
+    ensures { λ r. ⌜ r ≡ nparPlaces keep under ⌝ }
+{
+    match keep {
+        Keep::All => Places { all: true, bits: 0 },
+        Keep::Named => Places {
+            all: false,
+            bits: npar_names(under),
+        },
+        Keep::Standard => Places {
+            all: false,
+            bits: npar_names(under) - non_standards(under),
+        },
+    }
+}
+
+// The SPar positions that are kept of the block that stands under a code.
+pub fn spar_places(keep: Keep, under: u32) -> Places
+    ensures { λ r. ⌜ r ≡ sparPlaces keep under ⌝ }
+{
+    match keep {
+        Keep::All => Places { all: true, bits: 0 },
+        Keep::Named => Places {
+            all: false,
+            bits: spar_names(under),
+        },
+        Keep::Standard => Places {
+            all: false,
+            bits: spar_names(under),
+        },
+    }
+}
