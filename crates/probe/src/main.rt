@@ -24,6 +24,7 @@ fn answer(request: &[u8], reply: &mut [u8]) -> usize {
         2 => frames::frame_writer(request, reply),
         3 => messages::message_reader(request, reply),
         4 => messages::message_writer(request, reply),
+        5 => messages::striking(request, reply),
         _ => wire::put_refusal(reply),
     }
 }

@@ -1,4 +1,4 @@
-// Operations 3 and 4: the message reader and the message writer.
+// Operations 3, 4 and 5: the message reader, the message writer and striking.
 use super::wire;
 use super::wire::Answer;
 use super::wire::PIECES;
@@ -7,6 +7,7 @@ use super::wire::U8;
 use super::wire::U16;
 use super::wire::U32;
 use message::MessageRead;
+use strike::Struck;
 use writer::MessageWritten;
 
 // The most numbers of a list.
@@ -135,5 +136,31 @@ fn answer_of_writer(written: MessageWritten) -> Answer {
         MessageWritten::NotEmpty => Answer { no: 8, count: 0 },
         MessageWritten::BadNs => Answer { no: 9, count: 0 },
         MessageWritten::TooLong => Answer { no: 10, count: 0 },
+    }
+}
+
+// Request: message, out. Reply: no u8, octets u16, out.
+pub(crate) fn striking(request: &[u8], reply: &mut [u8]) -> usize {
+    let message = wire::read_run(request, PIECES, RUN_LIMIT);
+    let out = wire::read_run(request, message.end, RUN_LIMIT);
+    if out.end != request.len() {
+        return wire::put_refusal(reply);
+    }
+    let mut buffer = [0u8; RUN_LIMIT];
+    let room = wire::put_octets(&mut buffer, 0, wire::octets_of(request, out));
+    let struck = strike::strike_message(
+        wire::octets_of(request, message),
+        wire::first_mut(&mut buffer, room),
+    );
+    wire::put_answer(reply, answer_of_striking(struck), &buffer, room)
+}
+
+fn answer_of_striking(struck: Struck) -> Answer {
+    match struck {
+        Struck::Octets(count) => Answer { no: 0, count },
+        Struck::SmallOutput => Answer { no: 1, count: 0 },
+        Struck::BadSize => Answer { no: 2, count: 0 },
+        Struck::UnknownType => Answer { no: 3, count: 0 },
+        Struck::Malformed => Answer { no: 4, count: 0 },
     }
 }

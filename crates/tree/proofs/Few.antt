@@ -29,7 +29,7 @@ block-few w m p i (o ∷ l) = go (ltb o m) (block-few w m (p + w) (i + 1) l)
     go false h = omega (arith, length-append (setBits w p o) [], bits-most w p o)
 
 -- the same of the block at a place
-few : (w m p : ℕ) (l : List ℕ) (e : ℕ) → e ≤ length l
+pub few : (w m p : ℕ) (l : List ℕ) (e : ℕ) → e ≤ length l
     → (e ≤ behind m l e) × (behind m l e ≤ length l) × (length (numbers w m p l e) + w * e ≤ w * behind m l e)
 few w m p l e h = let k = block-few w m p e (drop e l) in (k .0, omega (arith, k .1, length-drop e l), k .2)
 
@@ -44,7 +44,7 @@ subs-few c (t ∷ ts) l e h =
     omega (arith, k, r, length-append (numbers 6 64 (c + t * 512) l e) (subCodes c ts l (behind 64 l e)))
 
 -- what stands in a Par(2) block behind its NPar(2)
-group-few : (c : ℕ) (l : List ℕ) (e : ℕ) → e ≤ length l
+pub group-few : (c : ℕ) (l : List ℕ) (e : ℕ) → e ≤ length l
     → (e ≤ groupBehind l e) × (groupBehind l e ≤ length l) × (length (groupCodes c l e) + 6 * e ≤ 6 * groupBehind l e)
 unfolding groupCodes groupBehind
 group-few c l e h = go (ended l e)

@@ -31,7 +31,7 @@ sets-over (x ∷ xs) [] = sets-none 1 xs
 sets-over (x ∷ xs) (y ∷ d) = sets-behind x d 0 xs ∙ ap (λ (l : List ℕ). x ∷ l) (sets-over xs d)
 
 -- two runs of numbers, one stored behind the other
-sets-append : (d : List ℕ) (i : ℕ) (xs ys : List ℕ) → sets d i (xs ++ ys) ≡ sets (sets d i xs) (i + length xs) ys
+pub sets-append : (d : List ℕ) (i : ℕ) (xs ys : List ℕ) → sets d i (xs ++ ys) ≡ sets (sets d i xs) (i + length xs) ys
 sets-append d i [] ys = let z : i + 0 ≡ i = omega arith in rw z
 sets-append d i (x ∷ xs) ys = let z : i + suc (length xs) ≡ suc i + length xs = omega arith in rw z (sets-append (set d i x) (suc i) xs ys)
 

@@ -87,7 +87,7 @@ pub puts-over : (out : List ℕ) (at o : ℕ) → length out ≡ 64 → 64 ≤ a
 puts-over out at o size h = record { at = omega arith; out = λ n. absurd (omega arith); size = size }
 
 -- bit 8 is set in the last octet that was stored
-sets-marked : (d : ℕ) (ds l : List ℕ) (i : ℕ) → i + suc (length ds) ≤ length l
+pub sets-marked : (d : ℕ) (ds l : List ℕ) (i : ℕ) → i + suc (length ds) ≤ length l
     → set (sets l i (d ∷ ds)) (i + length ds) (getD (sets l i (d ∷ ds)) (i + length ds) 0 % 128 + 128) ≡ sets l i (marked (d ∷ ds))
 unfolding marked
 sets-marked d [] l i h = let e : i + 0 ≡ i = omega arith in rw (e, getD-set-same l i d 0 (omega arith), set-set l i d (d % 128 + 128))
@@ -96,7 +96,7 @@ sets-marked d (e ∷ ds) l i h =
     rw n (sets-marked e ds (set l i d) (suc i) (omega (arith, length-set l i d)))
 
 -- marking changes no length
-length-marked : (d : ℕ) (ds : List ℕ) → length (marked (d ∷ ds)) ≡ suc (length ds)
+pub length-marked : (d : ℕ) (ds : List ℕ) → length (marked (d ∷ ds)) ≡ suc (length ds)
 unfolding marked
 length-marked d [] = refl
 length-marked d (e ∷ ds) = ap suc (length-marked e ds)

@@ -1,0 +1,106 @@
+-- The bench positions of document 01 that speak of wishes, with the ways in which tables are bad: one list, computed from the definitions.
+-- Assumes nothing.
+use Prim.Native.Nat.{ℕ, zero, suc}
+use mathlib.Core.Path.{_≡_, refl}
+use mathlib.Core.List.{List, [], _∷_, _++_}
+use Rattle.tree.specs.Block.{setBits, blockNumbers, blockEnd}
+use Rattle.tree.specs.Codes.{subCodes, subsBehind, groupCodes, groupBehind, parCodes, parsBehind, restCodes, restBehind, fieldCodes, fieldBehind}
+use Rattle.tree.specs.Form.{blockForm, subsForm, groupForm, parsForm, restForm, fieldForm}
+use Rattle.tree.specs.Walk.{codesIn, isIn, allIn, hasSpar}
+use Rattle.tree.specs.declared.Field.the-variants.{Standard}
+use Rattle.writer.specs.Minimal.{fullAtEnd, tight, subsMinimal, groupMinimal, parsMinimal, fieldMinimal}
+use Rattle.names.specs.Named.{rowsUnder, rowAt, rowOf}
+use Rattle.strike.specs.Good.{allStandard, goodField}
+use Rattle.choice.specs.Wishes.{wishesIn, wishesOf, standardCodes, goodRecords}
+use Rattle.choice.specs.Tables.{allInside, tablesNo}
+use Rattle.choice.specs.Choosing.{farCodes, unheard, firstSuiting, choice}
+use Rattle.choice.specs.Judging.{fitsSome, fitsReady, verdict, nakOf}
+use Rattle.choice.specs.declared.Choice.the-variants.{Chosen, NoChoice}
+use Rattle.choice.specs.declared.Pick.{Pick}
+use Rattle.choice.specs.declared.Verdict.{Verdict}
+use Rattle.choice.specs.declared.Verdict.the-variants.{Accepted, NotReady, NoFit}
+
+-- the wish of the bench, as an own table and as a record, ready and not
+abbrev field : List ℕ
+field = 0x80 ∷ 0x81 ∷ 0x02 ∷ 0xd0 ∷ []
+
+abbrev readyWish : List ℕ
+readyWish = 0x01 ∷ 0x04 ∷ field
+
+abbrev otherWish : List ℕ
+otherWish = 0x00 ∷ 0x04 ∷ field
+
+-- as many records of the ready wish
+abbrev repeated : ℕ → List ℕ
+repeated zero = []
+repeated (suc k) = readyWish ++ repeated k
+
+-- an own table that holds the wish and more, one with nothing set, and the CL of the listing example, whose S is at place 3
+abbrev wide : List ℕ
+wide = 0x80 ∷ 0xa1 ∷ 0x02 ∷ 0xd0 ∷ 0xc0 ∷ []
+
+abbrev nothing : List ℕ
+nothing = 0x80 ∷ 0x80 ∷ []
+
+abbrev far : List ℕ
+far = 0x22 ∷ 0x81 ∷ 0x80 ∷ 0x80 ∷ 0xa1 ∷ 0x02 ∷ 0xd0 ∷ 0xc0 ∷ []
+
+-- the wish with this number, its field at a place of the run
+abbrev one : ℕ → ℕ → Pick
+one number at = record { number = number; at = at; length = 4 }
+
+-- the verdict on the MS with these octets, whose S is at place 3
+abbrev judged : List ℕ → List ℕ → Verdict
+judged s run = verdict (codesIn Standard s 3) (wishesOf run)
+
+pub record Positions : Type 0 where
+  -- the wish in an own table that holds it, and none at all; the most wishes
+  pub good : tablesNo field readyWish ≡ 0
+  pub good-wide : tablesNo wide readyWish ≡ 0
+  pub no-wish : tablesNo nothing [] ≡ 0
+  pub sixteen : tablesNo field (repeated 16) ≡ 0
+  -- an own table of no octets; a seventeenth record, a flag of 2, an octet behind the last record, no SPar(1); a wish outside, not ready either
+  pub bad-own : tablesNo [] readyWish ≡ 2
+  pub seventeen : tablesNo field (repeated 17) ≡ 3
+  pub flag : tablesNo field (0x02 ∷ 0x04 ∷ field) ≡ 3
+  pub behind : tablesNo field (readyWish ++ (0x00 ∷ [])) ≡ 3
+  pub no-spar : tablesNo field (0x01 ∷ 0x02 ∷ nothing) ≡ 3
+  pub outside : tablesNo nothing otherWish ≡ 4
+  -- the choice for the far list: the first that is ready; none is where the own table or the far list lacks it
+  pub chosen : choice (standardCodes wide) (farCodes far 3) readyWish ≡ Chosen (one 1 2)
+  pub second : choice (standardCodes wide) (farCodes far 3) (otherWish ++ readyWish) ≡ Chosen (one 2 8)
+  pub unready : choice (standardCodes wide) (farCodes far 3) otherWish ≡ NoChoice
+  pub not-own : choice (standardCodes nothing) (farCodes far 3) readyWish ≡ NoChoice
+  pub not-far : choice (standardCodes wide) (farCodes nothing 0) readyWish ≡ NoChoice
+  pub unlisted : choice [] unheard readyWish ≡ Chosen (one 1 2)
+  -- MS 21 80 80 80 81 02 D8 is NAK(3), and 21 89 80 80 81 02 D0 is accepted; to a wish not ready NAK(2)
+  pub refused : nakOf (judged (0x21 ∷ 0x80 ∷ 0x80 ∷ 0x80 ∷ 0x81 ∷ 0x02 ∷ 0xd8 ∷ []) readyWish) ≡ 3
+  pub accepted : judged (0x21 ∷ 0x89 ∷ 0x80 ∷ 0x80 ∷ 0x81 ∷ 0x02 ∷ 0xd0 ∷ []) readyWish ≡ Accepted
+  pub not-ready : judged (0x21 ∷ 0x89 ∷ 0x80 ∷ 0x80 ∷ 0x81 ∷ 0x02 ∷ 0xd0 ∷ []) otherWish ≡ NotReady
+  pub empty : judged (0x21 ∷ 0x89 ∷ 0x80 ∷ 0x80 ∷ 0x80 ∷ []) readyWish ≡ NoFit
+
+pub positions : Positions
+unfolding setBits blockNumbers blockEnd subCodes subsBehind groupCodes groupBehind parCodes parsBehind restCodes restBehind fieldCodes fieldBehind blockForm subsForm groupForm parsForm restForm fieldForm codesIn isIn allIn hasSpar fullAtEnd tight subsMinimal groupMinimal parsMinimal fieldMinimal rowsUnder rowAt rowOf allStandard goodField wishesIn goodRecords allInside tablesNo firstSuiting choice fitsSome fitsReady verdict
+positions =
+    record {
+      good = refl;
+      good-wide = refl;
+      no-wish = refl;
+      sixteen = refl;
+      bad-own = refl;
+      seventeen = refl;
+      flag = refl;
+      behind = refl;
+      no-spar = refl;
+      outside = refl;
+      chosen = refl;
+      second = refl;
+      unready = refl;
+      not-own = refl;
+      not-far = refl;
+      unlisted = refl;
+      refused = refl;
+      accepted = refl;
+      not-ready = refl;
+      empty = refl;
+    }

@@ -1,0 +1,7 @@
+pub mod Truths
+pub mod Records
+pub mod Tabled
+pub mod Chosen
+pub mod Judged
+pub mod ChoiceUnique
+pub mod ChoiceBench

@@ -1,0 +1,5 @@
+pub mod Wishes
+pub mod Tables
+pub mod Choosing
+pub mod Judging
+pub mod Inner

@@ -1,0 +1,82 @@
+-- What `rewrite_field` answers: nothing where it refuses, and else what is put of the field.
+-- Assumes nothing.
+use Prim.Native.Nat.{ℕ, _+_, _≤_, _<_}
+use mathlib.Core.Bool.{Bool, true, false}
+use mathlib.Core.List.{List, []}
+use mathlib.Core.Path.{_≡_, refl, sym, ap, _∙_}
+use native.Mathlib.Omega.{arith}
+use borrow.Author.Tests.{ltb-false, lt-ltb, le-ltb}
+use lib.Dec.{ltb}
+use lib.ListN.{length}
+use Rattle.octets.specs.Bits.{AreOctets}
+use Rattle.octets.specs.Places.{pick}
+use Rattle.octets.proofs.Laying.{put-nil}
+use Rattle.tree.specs.Form.{isFine, fieldForm}
+use Rattle.tree.specs.Walk.{baseOf, formIn, reachOf}
+use Rattle.tree.specs.declared.Field.{Field}
+use Rattle.tree.specs.declared.Form.{Form}
+use Rattle.tree.specs.declared.Form.the-variants.{Fine, Left}
+use Rattle.tree.specs.declared.Reach.{Reach}
+use Rattle.tree.proofs.Forms.{is-fine, field-fits}
+use Rattle.message.proofs.Room.{codes-in}
+use Rattle.names.specs.declared.Keep.{Keep}
+use Rattle.strike.specs.Inner.{fieldKept, Puts}
+use Rattle.strike.specs.Rewriting.{kept, rewritten, Rewrites}
+use Rattle.strike.specs.declared.Spot.{Spot}
+use Rattle.strike.proofs.Crossing.{kept-is-written, kept-fits}
+use Rattle.strike.proofs.Storing.{sets-front}
+
+-- what is told of a field tells whether it is well-formed
+pub form-told : (form : Form) (end : ℕ) (r : Reach) {t : Bool} → r ≡ reachOf form end → isFine (r .form) ≡ t → isFine form ≡ t
+form-told form end r e h = ap (λ (x : Reach). isFine (x .form)) (sym e) ∙ h
+
+-- a field that is found fine stands in octets of a message
+fine-in : (l : List ℕ) (at : ℕ) → isFine (formIn l at) ≡ true → (length l ≤ 64) × (fieldForm l at ≡ Fine)
+unfolding formIn
+fine-in l at h = go (ltb 64 (length l)) refl h
+  where
+    go : (t : Bool) → ltb 64 (length l) ≡ t → isFine (pick t (Left 64) (fieldForm l at)) ≡ true → (length l ≤ 64) × (fieldForm l at ≡ Fine)
+    go true e f = let z : _≡_ {A = ℕ} 0 1 = cc in absurd (omega arith)
+    go false e f = (ltb-false 64 (length l) e, is-fine (fieldForm l at) f)
+
+-- what is kept of a field's codes, written, is what is put for it
+pub kept-is-put : (k : Keep) (f : Field) (l : List ℕ) (at : ℕ) → length l ≤ 64 → kept k f l at ≡ fieldKept k (baseOf f) l at
+unfolding kept
+kept-is-put k f l at short = rw (codes-in f l at short) (sym (kept-is-written k l short f at))
+
+module _ (k : Keep) (f : Field) (l : List ℕ) (at : ℕ) (out : List ℕ) where
+  rewrites-none : rewritten k f l at (length out) ≡ [] → Rewrites k f l at out 0 out
+  rewrites-none e = record { count = rw e; output = rw e (sym (put-nil out)) }
+
+  -- the output is too small
+  pub rewrites-small : length out < 64 → Rewrites k f l at out 0 out
+  unfolding rewritten
+  rewrites-small h = rewrites-none (rw (lt-ltb (length out) 64 h))
+
+  -- the field is not well-formed
+  pub rewrites-bad : isFine (formIn l at) ≡ false → Rewrites k f l at out 0 out
+  unfolding rewritten
+  rewrites-bad h = rewrites-none (rw h (go (ltb (length out) 64)))
+    where
+      go : (t : Bool) → pick {A = List ℕ} t [] [] ≡ []
+      go true = refl
+      go false = refl
+
+  module _ (enough : 64 ≤ length out) (fine : isFine (formIn l at) ≡ true) (o : AreOctets l) where
+    -- what is put has room
+    pub field-room : (length l ≤ 64) × (at ≤ length l) × (0 + length (fieldKept k (baseOf f) l at) ≤ length out)
+    field-room =
+        let x = fine-in l at fine in
+        let y = field-fits l at (x .1) in
+        (x .0, omega arith, omega (arith, kept-fits k l (x .0) f at o (x .1)))
+
+    -- and is the answer
+    pub rewrites-fine : (out₁ : List ℕ) (e : ℕ) (r : Spot) → Puts (fieldKept k (baseOf f) l at) e out 0 out₁ r → Rewrites k f l at out (r .to) out₁
+    unfolding rewritten
+    rewrites-fine out₁ e r p =
+        let room = field-room in
+        let all : rewritten k f l at (length out) ≡ fieldKept k (baseOf f) l at = rw (le-ltb (length out) 64 enough, fine) (kept-is-put k f l at (room .0)) in
+        record {
+          count = rw all (omega (arith, p .at));
+          output = rw all (p .out ∙ sets-front out (fieldKept k (baseOf f) l at) (omega arith));
+        }

@@ -1,0 +1,39 @@
+-- `strike::keeps_none` meets its contract: something is kept where more than one octet is left, and else the first says it.
+-- Assumes nothing.
+use mathlib.Core.Path.{_∙_, ap}
+use native.Mathlib.Omega.{arith}
+use borrow.Author.Needs.{needs}
+use Rattle.strike.proofs.Sifting.{keptOctet, kept-only}
+use Rattle.strike.proofs.Extents.{Framed, keeps-more, keeps-one}
+use Rattle.strike.proofs.keeps_none.Statement.{statement}
+use Rattle.strike.proofs.keeps_none.Tie as tie
+
+framed : (c : tie.Start) → Framed (c .args .w) (c .args .m) (c .args .s .now)
+framed c = record { mark = c .pre .0; wide = c .pre .1; narrow = c .pre .2; short = c .pre .3 }
+
+block-extent-requires : tie.Need-block-extent-requires
+block-extent-requires c κs = search needs
+
+returns : tie.Need-returns
+returns c =
+    let a = c .before .before .before .before in
+    keeps-more (framed a) (a .args .places) (a .args .e) (omega (arith, c .before .before .block-extent .ensures .0))
+
+octet-or-zero-requires : tie.Need-octet-or-zero-requires
+octet-or-zero-requires c κs = search needs
+
+kept-bits-requires : tie.Need-kept-bits-requires
+kept-bits-requires c κs = search needs
+
+returns-2 : tie.Need-returns-2
+returns-2 c =
+    let a = c .before .before .before .before .before .before in
+    let k = kept-only (a .args .w) (a .args .m) (a .args .places) 0 (c .before .octet-or-zero .result) (c .kept-bits .result) (a .pre .0) (c .kept-bits .ensures) in
+    keeps-one (framed a) (a .args .places) (a .args .e) (c .kept-bits .result)
+    (omega (arith, c .before .before .before .before .block-extent .ensures .0))
+    (k ∙ ap (keptOctet (a .args .w) (a .args .places) 0) (c .before .octet-or-zero .ensures))
+
+pub keeps-none-spec : {M : Type 1} → statement M
+keeps-none-spec =
+    tie.close
+    (tie.spec block-extent-requires returns octet-or-zero-requires kept-bits-requires returns-2)

@@ -1,0 +1,4 @@
+pub mod Rewriting
+pub mod Striking
+pub mod Good
+pub mod Inner

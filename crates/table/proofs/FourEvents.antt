@@ -1,0 +1,169 @@
+-- A transaction is over by its fourth acted-on event: no four events from Initial are all acted on with none of them ending it, and three are.
+-- Each phase has a number of turns that it can still take; a test that computes says that every act lowers it or ends the transaction.
+-- Assumes nothing.
+use Prim.Native.Nat.{ℕ, _≤_, zero-le}
+use native.Mathlib.Omega.{arith}
+use mathlib.Core.Path.{_≡_, refl, sym}
+use mathlib.Core.Bool.{Bool, true, false, not, _&&_, _||_, true≢false}
+use mathlib.Core.List.{List, [], _∷_}
+use lib.ListN.{length}
+use lib.Dec.{ltb}
+use borrow.Author.Tests.{ltb-true}
+use Rattle.table.specs.declared.Kind.{Kind}
+use Rattle.table.specs.declared.Kind.the-variants.{AtInitial, AtAskedE, AtAskedD, AtListsE, AtListsD, AtCounter, AtListed, AtTraded, AtPair, AtHalf, AtProposed, AtMode}
+use Rattle.table.specs.declared.Heard.{Heard}
+use Rattle.table.specs.declared.Heard.the-variants.{StartMrE, StartMrD, StartCrE, StartCrD, StartMs, StartCl, StartClr, HeardMrE, HeardMrD, HeardCrE, HeardCrD, GotMs, GotCl, GotClr, GotAck1, GotAck2, GotNak, AnswerTone, Spoilt}
+use Rattle.table.specs.declared.Act.{Act}
+use Rattle.table.specs.declared.Act.the-variants.{NoRow, CounterMrD, SendCrD, Propose, SendCl, PairClr, Agree, GiveUp, SendNak1}
+use Rattle.table.specs.declared.OnMrE.{OnMrE}
+use Rattle.table.specs.declared.OnMrE.the-variants.{WithMs, WithMrD, WithCrD}
+use Rattle.table.specs.declared.OnCrD.{OnCrD}
+use Rattle.table.specs.declared.OnCrD.the-variants.{WithCl, WithClr}
+use Rattle.table.specs.declared.OnCrE.{OnCrE}
+use Rattle.table.specs.declared.OnCrE.the-variants.{AsOnCrD, ByCrD}
+use Rattle.table.specs.declared.OnMrD.{OnMrD}
+use Rattle.table.specs.declared.OnMrD.the-variants.{ByMs, ByLists}
+use Rattle.table.specs.declared.Row.{Row}
+use Rattle.table.specs.declared.Settings.{Settings}
+use Rattle.table.specs.Rows.{onMrE, onMrD, onCrD, onCrE, initialAct, rowAct, toneAct, actOf}
+use Rattle.table.specs.Bound.{leadsTo, isActed, isOver, Turn, actAt, kindAfter, GoesOn}
+
+-- ---- the test
+
+-- how many events a phase can still take that do not end the transaction
+abbrev turnsLeft : Kind → ℕ
+turnsLeft AtInitial = 3
+turnsLeft AtAskedE = 2
+turnsLeft AtAskedD = 0
+turnsLeft AtListsE = 2
+turnsLeft AtListsD = 1
+turnsLeft AtCounter = 2
+turnsLeft AtListed = 0
+turnsLeft AtTraded = 1
+turnsLeft AtPair = 1
+turnsLeft AtHalf = 0
+turnsLeft AtProposed = 0
+turnsLeft AtMode = 0
+
+-- an act ends the transaction or leads to a phase with fewer turns left; found as for `leadsTo`
+abbrev isFewer : Kind → Act → Bool → Bool
+isFewer k a found = isOver (leadsTo a found k) || ltb (turnsLeft (leadsTo a found k)) (turnsLeft k)
+
+-- an act that counts does so whatever is found
+abbrev Falls : Kind → Act → Type 0
+Falls k a = (not (isActed a) || isFewer k a true && isFewer k a false) ≡ true
+
+-- ---- what holds of each entry holds of all
+
+of-row : (P : Act → Type 0) {r : Row} → P NoRow → P GiveUp → P SendNak1 → P (r .mrd) → P (r .crd) → P (r .ms) → P (r .cl) → P (r .clr) → P (r .ack) → P (r .tone) → (h : Heard) → P (rowAct r h)
+of-row P none nak bad mrd crd ms cl clr ack tone StartMrE = none
+of-row P none nak bad mrd crd ms cl clr ack tone StartMrD = none
+of-row P none nak bad mrd crd ms cl clr ack tone StartCrE = none
+of-row P none nak bad mrd crd ms cl clr ack tone StartCrD = none
+of-row P none nak bad mrd crd ms cl clr ack tone StartMs = none
+of-row P none nak bad mrd crd ms cl clr ack tone StartCl = none
+of-row P none nak bad mrd crd ms cl clr ack tone StartClr = none
+of-row P none nak bad mrd crd ms cl clr ack tone HeardMrE = none
+of-row P none nak bad mrd crd ms cl clr ack tone HeardMrD = mrd
+of-row P none nak bad mrd crd ms cl clr ack tone HeardCrE = none
+of-row P none nak bad mrd crd ms cl clr ack tone HeardCrD = crd
+of-row P none nak bad mrd crd ms cl clr ack tone GotMs = ms
+of-row P none nak bad mrd crd ms cl clr ack tone GotCl = cl
+of-row P none nak bad mrd crd ms cl clr ack tone GotClr = clr
+of-row P none nak bad mrd crd ms cl clr ack tone GotAck1 = ack
+of-row P none nak bad mrd crd ms cl clr ack tone GotAck2 = none
+of-row P none nak bad mrd crd ms cl clr ack tone GotNak = nak
+of-row P none nak bad mrd crd ms cl clr ack tone AnswerTone = tone
+of-row P none nak bad mrd crd ms cl clr ack tone Spoilt = bad
+
+of-mr-e : (P : Act → Type 0) → P Propose → P CounterMrD → P SendCrD → (set : OnMrE) → P (onMrE set)
+of-mr-e P ms mrd crd WithMs = ms
+of-mr-e P ms mrd crd WithMrD = mrd
+of-mr-e P ms mrd crd WithCrD = crd
+
+of-mr-d : (P : Act → Type 0) → P Propose → P SendCrD → (set : OnMrD) → P (onMrD set)
+of-mr-d P ms crd ByMs = ms
+of-mr-d P ms crd ByLists = crd
+
+of-cr-d : (P : Act → Type 0) → P SendCl → P PairClr → (set : OnCrD) → P (onCrD set)
+of-cr-d P cl clr WithCl = cl
+of-cr-d P cl clr WithClr = clr
+
+of-cr-e : (P : Act → Type 0) (display : OnCrD) → P (onCrD display) → P SendCrD → (set : OnCrE) → P (onCrE set display)
+of-cr-e P display same crd AsOnCrD = same
+of-cr-e P display same crd ByCrD = crd
+
+of-tone : (P : Act → Type 0) → P NoRow → P Agree → (asked : Bool) → P (toneAct asked)
+of-tone P none agree true = none
+of-tone P none agree false = agree
+
+-- ---- every entry of the table falls
+
+initial-falls : (s : Settings) (h : Heard) → Falls AtInitial (initialAct s h)
+initial-falls s StartMrE = refl
+initial-falls s StartMrD = refl
+initial-falls s StartCrE = refl
+initial-falls s StartCrD = refl
+initial-falls s StartMs = refl
+initial-falls s StartCl = refl
+initial-falls s StartClr = refl
+initial-falls s HeardMrE = of-mr-e (Falls AtInitial) refl refl refl (s .mre)
+initial-falls s HeardMrD = refl
+initial-falls s HeardCrE = of-cr-e (Falls AtInitial) (s .crd) (of-cr-d (Falls AtInitial) refl refl (s .crd)) refl (s .cre)
+initial-falls s HeardCrD = of-cr-d (Falls AtInitial) refl refl (s .crd)
+initial-falls s GotMs = refl
+initial-falls s GotCl = refl
+initial-falls s GotClr = refl
+initial-falls s GotAck1 = refl
+initial-falls s GotAck2 = refl
+initial-falls s GotNak = refl
+initial-falls s AnswerTone = refl
+initial-falls s Spoilt = refl
+
+table-falls : (k : Kind) (s : Settings) (a : Bool) (h : Heard) → Falls k (actOf k s a h)
+table-falls AtInitial s a h = initial-falls s h
+table-falls AtAskedE s a h = of-row (Falls AtAskedE) refl refl refl (of-mr-d (Falls AtAskedE) refl refl (s .mrd)) (of-cr-d (Falls AtAskedE) refl refl (s .crd)) refl refl refl refl refl h
+table-falls AtAskedD s a h = of-row (Falls AtAskedD) refl refl refl refl refl refl refl refl refl refl h
+table-falls AtListsE s a h = of-row (Falls AtListsE) refl refl refl refl (of-cr-d (Falls AtListsE) refl refl (s .crd)) refl refl refl refl refl h
+table-falls AtListsD s a h = of-row (Falls AtListsD) refl refl refl refl refl refl refl refl refl refl h
+table-falls AtCounter s a h = of-row (Falls AtCounter) refl refl refl refl (of-cr-d (Falls AtCounter) refl refl (s .crd)) refl refl refl refl refl h
+table-falls AtListed s a h = of-row (Falls AtListed) refl refl refl refl refl refl refl refl refl refl h
+table-falls AtTraded s a h = of-row (Falls AtTraded) refl refl refl refl refl refl refl refl refl refl h
+table-falls AtPair s a h = of-row (Falls AtPair) refl refl refl refl refl refl refl refl refl refl h
+table-falls AtHalf s a h = of-row (Falls AtHalf) refl refl refl refl refl refl refl refl refl refl h
+table-falls AtProposed s a h = of-row (Falls AtProposed) refl refl refl refl refl refl refl refl refl (of-tone (Falls AtProposed) refl refl a) h
+table-falls AtMode s a h = refl
+
+-- ---- from the test to the bound
+
+both-true : (x y : Bool) → (x && y) ≡ true → (x ≡ true) × (y ≡ true)
+both-true true y h = (refl, h)
+both-true false y h = absurd (true≢false (sym h))
+
+fewer : (k : Kind) (a : Act) (found : Bool) → Falls k a → isActed a ≡ true → isFewer k a found ≡ true
+fewer k a true falls acted = both-true (isFewer k a true) (isFewer k a false) (rw acted at falls) .0
+fewer k a false falls acted = both-true (isFewer k a true) (isFewer k a false) (rw acted at falls) .1
+
+-- from any phase: at most as many turns as it has left
+turns-bound : (k : Kind) (turns : List Turn) → GoesOn k turns → length turns ≤ turnsLeft k
+unfolding GoesOn
+turns-bound k [] goes = zero-le
+turns-bound k (e ∷ rest) goes =
+    let less : isFewer k (actAt k e) (e .found) ≡ true = fewer k (actAt k e) (e .found) (table-falls k (e .set) (e .asked) (e .heard)) (goes .0) in
+    let behind : length rest ≤ turnsLeft (kindAfter k e) = turns-bound (kindAfter k e) rest (goes .2) in
+    omega (arith, ltb-true (turnsLeft (kindAfter k e)) (turnsLeft k) (rw (goes .1) at less))
+
+pub at-most-three : (turns : List Turn) → GoesOn AtInitial turns → length turns ≤ 3
+at-most-three turns goes = turns-bound AtInitial turns goes
+
+-- so a fourth ends it
+pub over-by-fourth : (a b c d : Turn) → GoesOn AtInitial (a ∷ b ∷ c ∷ d ∷ []) → ⊥
+over-by-fourth a b c d goes = omega (arith, at-most-three (a ∷ b ∷ c ∷ d ∷ []) goes)
+
+abbrev pub turn : Settings → Bool → Bool → Heard → Turn
+turn s a f h = record { heard = h; set = s; asked = a; found = f }
+
+-- and none need end it earlier: MR_e is started, CR_d is heard and answered by CLR, CL is heard, and an MS is still due
+pub three-go-on : (s : Settings) → s .crd ≡ WithClr → (a f : Bool) → GoesOn AtInitial (turn s a f StartMrE ∷ turn s a f HeardCrD ∷ turn s a f GotCl ∷ [])
+unfolding GoesOn
+three-go-on s pairs a f = rw pairs (refl, refl, (refl, refl, (refl, refl, tt)))

@@ -1,0 +1,2 @@
+pub mod FourEvents
+pub mod Lines
