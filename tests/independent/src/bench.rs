@@ -1,14 +1,11 @@
-//! The bench: checks are put to the probe one by one, differences are
+//! The bench: checks are put to the programs one by one, differences are
 //! reported, and the outcomes met are counted.
 
-use crate::probe::{Ended, Probe};
+use crate::program::{Ended, Program};
 use crate::random::Random;
 use crate::wire;
 use std::collections::BTreeMap;
 use std::fmt;
-
-/// How often each required outcome has to be met in a run.
-const OFTEN_ENOUGH: usize = 100;
 
 /// An operation's answer number: 0 for success, otherwise the refusal.
 #[derive(Clone, Copy, Debug, PartialEq, Eq, PartialOrd, Ord)]
@@ -31,6 +28,7 @@ pub struct Case {
     pub request: Vec<u8>,
     pub expected: Vec<u8>,
     pub outcome: Outcome,
+    counted_too: Option<Outcome>,
     due: Option<u8>,
 }
 
@@ -40,8 +38,15 @@ impl Case {
             request,
             expected,
             outcome,
+            counted_too: None,
             due: None,
         }
+    }
+
+    /// Has the case counted under a second outcome as well.
+    pub fn counted_too(mut self, outcome: Option<Outcome>) -> Case {
+        self.counted_too = outcome;
+        self
     }
 
     /// States the answer number that follows from the way the request was
@@ -49,6 +54,19 @@ impl Case {
     pub fn due(mut self, number: u8) -> Case {
         self.due = Some(number);
         self
+    }
+
+    /// The case, if the expected reply is the one known beforehand.
+    pub fn known(self, reply: &[u8]) -> Result<Case, String> {
+        if self.expected == reply {
+            return Ok(self);
+        }
+        Err(format!(
+            "the comparing program itself is wrong: request {}, known {}, expected {}",
+            wire::hex(&self.request),
+            wire::hex(reply),
+            wire::hex(&self.expected)
+        ))
     }
 
     fn is_as_due(&self) -> bool {
@@ -60,37 +78,64 @@ type Work = Box<dyn FnOnce(&mut Bench) -> Result<(), String>>;
 
 /// A named family of requests.
 pub struct Check {
-    name: &'static str,
+    name: String,
     work: Work,
 }
 
 impl Check {
-    pub fn new(
-        name: &'static str,
-        work: impl FnOnce(&mut Bench) -> Result<(), String> + 'static,
-    ) -> Check {
+    pub fn new(name: &str, work: impl FnOnce(&mut Bench) -> Result<(), String> + 'static) -> Check {
         Check {
-            name,
+            name: name.to_string(),
             work: Box::new(work),
         }
     }
 
     /// A check whose requests are all known beforehand.
-    pub fn of_cases(name: &'static str, family: fn(&mut Random) -> Vec<Case>) -> Check {
-        Check::new(name, move |bench| {
-            bench.compare(&family(&mut Random::named(name)))
-        })
+    pub fn of_cases(name: &str, family: impl FnOnce(&mut Random) -> Vec<Case> + 'static) -> Check {
+        let mut random = Random::named(name);
+        Check::new(name, move |bench| bench.compare(&family(&mut random)))
     }
+}
+
+/// The programs that checks are put to.
+pub struct Programs {
+    pub probe: Program,
+    pub chooser: Program,
+}
+
+/// Which of the programs a layer's checks are put to.
+#[derive(Clone, Copy)]
+pub enum Asked {
+    Probe,
+    Chooser,
 }
 
 /// The checks of one part of the product, and the outcomes they must meet.
 pub struct Layer {
+    pub asked: Asked,
     pub checks: Vec<Check>,
     pub outcomes: Vec<Outcome>,
+    /// How often each of the outcomes has to be met in a run.
+    pub often_enough: usize,
+}
+
+/// An outcome that has to be met so many times.
+struct Required {
+    outcome: Outcome,
+    times: usize,
+}
+
+impl Layer {
+    fn required(&self) -> impl Iterator<Item = Required> + '_ {
+        let times = self.often_enough;
+        let outcomes = self.outcomes.iter();
+        outcomes.map(move |&outcome| Required { outcome, times })
+    }
 }
 
 pub struct Bench {
-    probe: Probe,
+    programs: Programs,
+    asked: Asked,
     met: BTreeMap<Outcome, usize>,
     requests: usize,
     passed: usize,
@@ -98,9 +143,10 @@ pub struct Bench {
 }
 
 impl Bench {
-    pub fn new(probe: Probe) -> Bench {
+    pub fn new(programs: Programs) -> Bench {
         Bench {
-            probe,
+            programs,
+            asked: Asked::Probe,
             met: BTreeMap::new(),
             requests: 0,
             passed: 0,
@@ -108,22 +154,33 @@ impl Bench {
         }
     }
 
-    /// The probe's replies, one for each request.
+    /// The program that the checks at hand are put to.
+    fn program(&mut self) -> &mut Program {
+        match self.asked {
+            Asked::Probe => &mut self.programs.probe,
+            Asked::Chooser => &mut self.programs.chooser,
+        }
+    }
+
+    /// The program's replies, one for each request.
     pub fn ask(&mut self, requests: &[Vec<u8>]) -> Result<Vec<Vec<u8>>, String> {
         self.requests += requests.len();
-        self.probe.ask(requests)
+        self.program().ask(requests)
     }
 
-    /// All that the probe makes of an input that is no row of whole requests.
+    /// All that the program makes of an input that is no row of whole
+    /// requests.
     pub fn converse(&mut self, input: Vec<u8>) -> Result<Ended, String> {
         self.requests += 1;
-        self.probe.converse(input)
+        self.program().converse(input)
     }
 
-    /// Puts the cases to the probe; every reply must be the expected one.
+    /// Puts the cases to the program; every reply must be the expected one.
     pub fn compare(&mut self, cases: &[Case]) -> Result<(), String> {
         for case in cases {
-            *self.met.entry(case.outcome).or_default() += 1;
+            for outcome in [case.outcome].into_iter().chain(case.counted_too) {
+                *self.met.entry(outcome).or_default() += 1;
+            }
         }
         if let Some(case) = cases.iter().find(|case| !case.is_as_due()) {
             return Err(format!(
@@ -145,13 +202,14 @@ impl Bench {
         let mut required = Vec::new();
         let mut total = 0;
         for layer in layers {
-            required.extend(layer.outcomes);
+            required.extend(layer.required());
+            self.asked = layer.asked;
             for check in layer.checks {
                 self.requests = 0;
                 let result = (check.work)(&mut self);
                 total += self.requests;
                 let size = format!(" ({} requests)", self.requests);
-                self.report(check.name, &size, result);
+                self.report(&check.name, &size, result);
             }
         }
         for (outcome, times) in &self.met {
@@ -199,19 +257,17 @@ pub fn same_replies(
     }
 }
 
-fn all_met(required: &[Outcome], met: &BTreeMap<Outcome, usize>) -> Result<(), String> {
+fn all_met(required: &[Required], met: &BTreeMap<Outcome, usize>) -> Result<(), String> {
+    let times_met = |outcome| met.get(outcome).copied().unwrap_or(0);
     let missed: Vec<String> = required
         .iter()
-        .filter(|outcome| met.get(outcome).copied().unwrap_or(0) < OFTEN_ENOUGH)
-        .map(|outcome| outcome.to_string())
+        .filter(|required| times_met(&required.outcome) < required.times)
+        .map(|required| format!("{} under {} times", required.outcome, required.times))
         .collect();
     if missed.is_empty() {
         return Ok(());
     }
-    Err(format!(
-        "met under {OFTEN_ENOUGH} times: {}",
-        missed.join(", ")
-    ))
+    Err(format!("met too seldom: {}", missed.join(", ")))
 }
 
 #[cfg(test)]
@@ -225,14 +281,19 @@ mod tests {
 
     #[test]
     fn an_outcome_met_too_seldom_is_named() {
-        let met = BTreeMap::from([(SUCCESS, OFTEN_ENOUGH)]);
         let refusal = Outcome {
             number: 4,
             ..SUCCESS
         };
-        assert_eq!(all_met(&[SUCCESS], &met), Ok(()));
-        let missed = all_met(&[SUCCESS, refusal], &met).unwrap_err();
-        assert!(missed.ends_with(": some operation refusal 4"));
+        let met = BTreeMap::from([(SUCCESS, 7), (refusal, 6)]);
+        let seven_times = |outcome| Required { outcome, times: 7 };
+        assert_eq!(all_met(&[seven_times(SUCCESS)], &met), Ok(()));
+        let required = [seven_times(SUCCESS), seven_times(refusal)];
+        let missed = all_met(&required, &met).unwrap_err();
+        assert_eq!(
+            missed,
+            "met too seldom: some operation refusal 4 under 7 times"
+        );
     }
 
     #[test]

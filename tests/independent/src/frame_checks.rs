@@ -11,7 +11,7 @@ mod vectors;
 mod whole;
 mod writer;
 
-use crate::bench::{Check, Layer};
+use crate::bench::{Asked, Check, Layer};
 use std::path::Path;
 
 pub fn layer(vectors: &Path) -> Layer {
@@ -28,7 +28,9 @@ pub fn layer(vectors: &Path) -> Layer {
         move |bench| vectors::check(bench, &file)
     }));
     Layer {
+        asked: Asked::Probe,
         checks,
         outcomes: runs::outcomes(),
+        often_enough: 100,
     }
 }

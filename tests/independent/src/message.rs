@@ -1,13 +1,18 @@
 //! Messages by V.8 bis clause 8: a reader that takes the octets apart into
-//! trees of sets, and a writer that grows such trees from codes and puts each
-//! block together from its set.
+//! trees of sets, a writer that grows such trees from codes and puts each
+//! block together from its set, and striking.
 
 mod code;
+mod names;
+mod standard;
+mod striking;
 #[cfg(test)]
 mod tests;
 mod tree;
 
 pub use code::Code;
+pub use standard::{minimal_parameters, parameters_in_front, standard_place, Parameters};
+pub use striking::{strike, struck};
 
 use crate::wire::Row;
 use code::{IDENTIFICATION, STANDARD};
@@ -107,10 +112,8 @@ impl Message {
     }
 
     fn codes(&self) -> Vec<u32> {
-        let weight = Code::BASE.pow(2);
-        let root = |f| Code::new(f, 0, 0, 0).number();
-        let mut codes = self.identification.codes(root(IDENTIFICATION), weight);
-        codes.extend(self.standard.codes(root(STANDARD), weight));
+        let mut codes = self.identification.field_codes(IDENTIFICATION);
+        codes.extend(self.standard.field_codes(STANDARD));
         codes
     }
 

@@ -88,9 +88,11 @@ pub fn joined(requests: &[Vec<u8>]) -> Vec<u8> {
     row.done()
 }
 
-/// The whole replies at the front of `output`, and the number of octets left
+/// The whole replies at the front of an output, and the number of octets left
 /// over behind them.
-pub fn separated(output: &[u8]) -> (Vec<Vec<u8>>, usize) {
+pub type Separated = (Vec<Vec<u8>>, usize);
+
+pub fn separated(output: &[u8]) -> Separated {
     let mut fields = Fields::of(output);
     let mut replies = Vec::new();
     let mut left_over = output.len();
@@ -118,6 +120,12 @@ pub fn from_hex(text: &str) -> Option<Vec<u8>> {
             .map(|pair| pair[0] * 16 + pair[1])
             .collect(),
     )
+}
+
+/// The octets of a text that stands in this program, blanks between them or
+/// not.
+pub fn written_out(text: &str) -> Vec<u8> {
+    from_hex(&text.replace(' ', "")).expect("pairs of hexadecimal digits")
 }
 
 #[cfg(test)]

@@ -1,11 +1,16 @@
 //! Checks of the probe's row of requests as such: what is no request gets the
 //! reply FF, what is no whole request gets none.
 
-use crate::bench::{Bench, Case, Check, Layer, Outcome};
+use crate::bench::{Asked, Bench, Case, Check, Layer, Outcome};
+use crate::program::{Manner, Program};
 use crate::random::Random;
 use crate::wire;
+use std::path::PathBuf;
 
 const NO_REQUEST: u8 = 0xFF;
+
+/// Numbers of octets that no run and no buffer may have.
+pub const TOO_LONG: [usize; 7] = [256, 257, 300, 511, 512, 1000, 20000];
 
 const MALFORMED: Outcome = Outcome {
     operation: "malformed request",
@@ -14,6 +19,7 @@ const MALFORMED: Outcome = Outcome {
 
 pub fn layer() -> Layer {
     Layer {
+        asked: Asked::Probe,
         checks: vec![
             Check::of_cases("requests: empty", empty),
             Check::of_cases("requests: unknown operation", unknown_operation),
@@ -21,7 +27,17 @@ pub fn layer() -> Layer {
             Check::new("requests: input ends inside a request", ended_inside),
         ],
         outcomes: vec![MALFORMED],
+        often_enough: 100,
     }
+}
+
+/// The probe: each request and each reply stands behind its length.
+pub fn probe(file: PathBuf) -> Program {
+    let manner = Manner {
+        joined: wire::joined,
+        separated: wire::separated,
+    };
+    Program::new("probe", file, manner)
 }
 
 /// The case of a request that must get the reply FF.
@@ -46,6 +62,23 @@ pub fn with_octets_left_over(random: &mut Random, requests: &[Vec<u8>]) -> Vec<C
     for request in requests {
         let more = |count| malformed([request.as_slice(), &random.octets(count)].concat());
         cases.extend((1..=40).map(more));
+    }
+    cases
+}
+
+/// Well-formed requests stand between the others, to see that the row of
+/// replies keeps in step.
+pub fn between(
+    random: &mut Random,
+    malformed: Vec<Case>,
+    well_formed: fn(&mut Random) -> Vec<Case>,
+) -> Vec<Case> {
+    let mut cases = Vec::new();
+    for case in malformed {
+        cases.push(case);
+        if random.below(4) == 0 {
+            cases.extend(well_formed(random));
+        }
     }
     cases
 }

@@ -3,7 +3,7 @@
 use super::runs::*;
 use crate::bench::{Case, Check};
 use crate::random::Random;
-use crate::wire_checks;
+use crate::wire_checks::{self, TOO_LONG};
 
 pub fn checks() -> Vec<Check> {
     vec![
@@ -24,36 +24,27 @@ fn samples(random: &mut Random) -> [Vec<u8>; 2] {
     ]
 }
 
-/// Well-formed requests stand between the others, to see that the row of
-/// replies keeps in step.
-fn between_well_formed(random: &mut Random, malformed: Vec<Case>) -> Vec<Case> {
-    let mut cases = Vec::new();
-    for case in malformed {
-        cases.push(case);
-        if random.below(4) == 0 {
-            let bits = any_frame(random);
-            cases.push(heard(random, &bits).due(0));
-        }
-    }
-    cases
+fn well_formed(random: &mut Random) -> Vec<Case> {
+    let bits = any_frame(random);
+    vec![heard(random, &bits).due(0)]
 }
 
 fn cut_short(random: &mut Random) -> Vec<Case> {
     let requests = samples(random);
-    between_well_formed(random, wire_checks::cut_short(&requests))
+    wire_checks::between(random, wire_checks::cut_short(&requests), well_formed)
 }
 
 fn left_over(random: &mut Random) -> Vec<Case> {
     let requests = samples(random);
     let malformed = wire_checks::with_octets_left_over(random, &requests);
-    between_well_formed(random, malformed)
+    wire_checks::between(random, malformed, well_formed)
 }
 
 /// Runs and buffers longer than 255 octets, all octets present, and lengths
 /// with no octets behind them.
 fn above_limit(random: &mut Random) -> Vec<Case> {
     let mut requests = Vec::new();
-    for length in [256, 257, 300, 511, 512, 1000, 20000] {
+    for length in TOO_LONG {
         let long = random.octets(length);
         let short = random.octets(100);
         requests.push(reader_request(48, &long, &short));
@@ -66,5 +57,5 @@ fn above_limit(random: &mut Random) -> Vec<Case> {
     requests.push(vec![1, 48, 0, 0, 0, 0xFF, 0xFF]);
     requests.push(vec![2, 2, 1, 0xFF, 0xFF]);
     let malformed = requests.into_iter().map(wire_checks::malformed).collect();
-    between_well_formed(random, malformed)
+    wire_checks::between(random, malformed, well_formed)
 }

@@ -1,11 +1,7 @@
 //! Messages worked out by hand.
 
 use super::*;
-use crate::wire;
-
-fn octets(text: &str) -> Vec<u8> {
-    wire::from_hex(&text.replace(' ', "")).expect("hexadecimal octets")
-}
+use crate::wire::{self, written_out as octets};
 
 /// The codes written as f.s.t.n.
 fn codes(text: &str) -> Vec<u32> {

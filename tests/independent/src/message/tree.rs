@@ -148,9 +148,14 @@ impl Branch {
         branch.npars.extend(Some(code.n).filter(|&part| part > 0));
     }
 
+    /// The codes of all that is set in a field with this tree.
+    pub fn field_codes(&self, f: u32) -> Vec<u32> {
+        self.codes(Code::new(f, 0, 0, 0).number(), Code::BASE.pow(2))
+    }
+
     /// The codes of all that is set, where `above` is the code of the branch
     /// itself and `weight` the factor that its SPars have in a code.
-    pub fn codes(&self, above: u32, weight: u32) -> Vec<u32> {
+    fn codes(&self, above: u32, weight: u32) -> Vec<u32> {
         let npars = self.npars.iter().map(|position| above + position);
         let spars = self.spars.iter().flat_map(|(position, branch)| {
             let code = above + weight * position;

@@ -62,12 +62,17 @@ impl Layout {
     pub fn any(random: &mut Random) -> Layout {
         let depth = random.pick(&[1, 2, 2, 3, 3, 3]);
         let layout = Layout::within(random, depth, MOST_OCTETS);
-        let left = MOST_OCTETS - layout.length();
+        layout.perhaps_announcing(random)
+    }
+
+    /// The message with NS in one of three cases, if there is room for it.
+    pub fn perhaps_announcing(self, random: &mut Random) -> Layout {
+        let left = MOST_OCTETS - self.length();
         if left < 3 || random.below(3) > 0 {
-            return layout;
+            return self;
         }
         let length = random.within(3, left);
-        layout.announcing(non_standard_field(random, length))
+        self.announcing(non_standard_field(random, length))
     }
 }
 

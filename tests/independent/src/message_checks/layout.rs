@@ -5,6 +5,7 @@ use super::drawn::non_standard_field;
 use super::requests::WITH_FIELDS;
 use crate::message::{Code, Meaning};
 use crate::random::Random;
+use std::collections::BTreeSet;
 
 /// The parameter bits of each octet of a block, without the marks.
 pub type Block = Vec<u8>;
@@ -63,13 +64,14 @@ pub fn ones(block: &[u8]) -> usize {
     block.iter().map(|octet| octet.count_ones() as usize).sum()
 }
 
-/// The shortest block with one position set, or none if it is 0.
-fn block_with(position: u32, bits: usize) -> Block {
-    let Some(place) = (position as usize).checked_sub(1) else {
-        return vec![0];
-    };
-    let mut block = vec![0; place / bits + 1];
-    block[place / bits] = 1 << (place % bits);
+/// The shortest block with these positions set; 0 is no position.
+fn block_with(positions: impl Iterator<Item = u32>, bits: usize) -> Block {
+    let mut block = vec![0; 1];
+    for place in positions.filter_map(|position| position.checked_sub(1)) {
+        let octet = place as usize / bits;
+        block.resize(block.len().max(octet + 1), 0);
+        block[octet] |= 1 << (place as usize % bits);
+    }
     block
 }
 
@@ -80,6 +82,12 @@ fn trim(block: &mut Block) {
     }
 }
 
+/// Adds an octet to one of the blocks; `bits` draws what is set in it.
+fn add_octet(random: &mut Random, mut blocks: Vec<&mut Block>, bits: impl Fn(&mut Random) -> u8) {
+    let chosen = random.below(blocks.len());
+    blocks[chosen].push(bits(random));
+}
+
 impl Par2 {
     /// One octet with these parameter bits.
     pub fn of_bits(bits: u8) -> Par2 {
@@ -88,6 +96,22 @@ impl Par2 {
             spars: Vec::new(),
             below: Vec::new(),
         }
+    }
+
+    /// The smallest Par(2) block with these parameters of one SPar(1).
+    fn of_codes(codes: &[Code]) -> Par2 {
+        let npars_at = |t| {
+            let here = codes.iter().filter(move |code| code.t == t);
+            block_with(here.map(|code| code.n), LOWER)
+        };
+        let spars: BTreeSet<u32> = codes.iter().map(|code| code.t).collect();
+        let below = spars.iter().filter(|&&t| t > 0).map(|&t| npars_at(t));
+        let par_2 = Par2 {
+            npars: npars_at(0),
+            below: below.collect(),
+            spars: block_with(spars.into_iter(), LOWER),
+        };
+        par_2.trimmed()
     }
 
     fn octets(&self) -> Vec<u8> {
@@ -121,6 +145,11 @@ impl Par2 {
         self.below.iter_mut().for_each(trim);
     }
 
+    fn trimmed(mut self) -> Par2 {
+        self.trim();
+        self
+    }
+
     fn npar_blocks(&mut self) -> impl Iterator<Item = &mut Block> {
         [&mut self.npars].into_iter().chain(&mut self.below)
     }
@@ -140,34 +169,49 @@ impl Field {
         }
     }
 
-    /// The smallest field in which the parameter is set.
-    fn with(code: Code) -> Field {
-        if code.s == 0 {
-            return Field {
-                npars: block_with(code.n, LEVEL_1),
-                ..Field::empty()
-            };
-        }
-        let n_block = block_with(code.n, LOWER);
-        let par_2 = match code.t {
-            0 => Par2 {
-                npars: n_block,
-                ..Par2::of_bits(0)
-            },
-            t => Par2 {
-                npars: vec![0],
-                spars: block_with(t, LOWER),
-                below: vec![n_block],
-            },
-        };
+    /// The smallest field in which these parameters are set. Those above them
+    /// need not be given.
+    pub fn of_codes(codes: &BTreeSet<Code>) -> Field {
+        let at = |s| codes.iter().copied().filter(move |code| code.s == s);
+        let spars: BTreeSet<u32> = codes.iter().map(|code| code.s).collect();
+        let par_2 = |&s: &u32| Par2::of_codes(&at(s).collect::<Vec<Code>>());
         Field {
-            npars: vec![0],
-            spars: block_with(code.s, LEVEL_1),
-            below: vec![par_2],
+            npars: block_with(at(0).map(|code| code.n), LEVEL_1),
+            below: spars.iter().filter(|&&s| s > 0).map(par_2).collect(),
+            spars: block_with(spars.into_iter(), LEVEL_1),
         }
     }
 
-    fn octets(&self) -> Vec<u8> {
+    /// The field with needless octets at the end of some blocks, and with some
+    /// SPar(2) blocks in which nothing is set.
+    pub fn loosened(mut self, random: &mut Random) -> Field {
+        for par_2 in &mut self.below {
+            if par_2.spars.is_empty() && random.below(3) == 0 {
+                par_2.spars.push(0);
+            }
+        }
+        let mut loosen =
+            |block: &mut Block| block.resize(block.len() + random.pick(&[0, 0, 0, 1, 2]), 0);
+        self.npar_blocks().for_each(&mut loosen);
+        self.spar_blocks().for_each(&mut loosen);
+        self
+    }
+
+    /// The field with octets added at the ends of NPar blocks until it has
+    /// this length; `bits` draws what is set in them.
+    pub fn stretched(
+        mut self,
+        random: &mut Random,
+        length: usize,
+        bits: impl Fn(&mut Random) -> u8,
+    ) -> Field {
+        while self.octets().len() < length {
+            add_octet(random, self.npar_blocks().collect(), &bits);
+        }
+        self
+    }
+
+    pub fn octets(&self) -> Vec<u8> {
         let mut octets = marked(&self.npars, LEVEL_1_LAST);
         octets.extend(marked(&self.spars, LEVEL_1_LAST));
         octets.extend(self.below.iter().flat_map(Par2::octets));
@@ -217,7 +261,7 @@ impl Layout {
     /// The smallest message in which the parameter is set.
     pub fn with(random: &mut Random, code: Code) -> Layout {
         let field_or_empty = |f| match code.f == f {
-            true => Field::with(code),
+            true => Field::of_codes(&BTreeSet::from([code])),
             false => Field::empty(),
         };
         let layout = Layout::of_fields(random, field_or_empty(1), field_or_empty(2));
@@ -243,9 +287,7 @@ impl Layout {
         bits: impl Fn(&mut Random) -> u8,
     ) -> Layout {
         while self.length() < length {
-            let mut blocks = self.npar_blocks();
-            let chosen = random.below(blocks.len());
-            blocks[chosen].push(bits(random));
+            add_octet(random, self.npar_blocks(), &bits);
         }
         self
     }
@@ -279,6 +321,11 @@ impl Layout {
 
     pub fn length(&self) -> usize {
         self.octets().len()
+    }
+
+    /// Where the S field begins, in octets from 0.
+    pub fn standard_place(&self) -> usize {
+        1 + self.identification.octets().len()
     }
 
     pub fn meaning(&self) -> Meaning {

@@ -7,7 +7,7 @@ use crate::bench::{Case, Check};
 use crate::message::Meaning;
 use crate::random::Random;
 use crate::wire::{Row, MOST_LENT};
-use crate::wire_checks;
+use crate::wire_checks::{self, TOO_LONG};
 
 pub fn checks() -> Vec<Check> {
     vec![
@@ -18,9 +18,6 @@ pub fn checks() -> Vec<Check> {
         Check::of_cases("message requests: another count than codes", other_counts),
     ]
 }
-
-/// Numbers of octets that no run and no buffer may have.
-const TOO_LONG: [usize; 7] = [256, 257, 300, 511, 512, 1000, 20000];
 
 fn some_meaning(random: &mut Random) -> Meaning {
     let layout = Layout::within(random, 3, 40);
@@ -38,30 +35,23 @@ fn samples(random: &mut Random) -> [Vec<u8>; 2] {
     ]
 }
 
-/// Well-formed requests stand between the others, to see that the row of
-/// replies keeps in step.
-fn between_well_formed(random: &mut Random, malformed: Vec<Case>) -> Vec<Case> {
-    let mut cases = Vec::new();
-    for case in malformed {
-        cases.push(case);
-        if random.below(4) == 0 {
-            let layout = Layout::any(random);
-            cases.push(heard(random, &layout.octets()).due(0));
-            cases.push(told(random, &layout.meaning()).due(0));
-        }
-    }
-    cases
+fn well_formed(random: &mut Random) -> Vec<Case> {
+    let layout = Layout::any(random);
+    vec![
+        heard(random, &layout.octets()).due(0),
+        told(random, &layout.meaning()).due(0),
+    ]
 }
 
 fn cut_short(random: &mut Random) -> Vec<Case> {
     let requests = samples(random);
-    between_well_formed(random, wire_checks::cut_short(&requests))
+    wire_checks::between(random, wire_checks::cut_short(&requests), well_formed)
 }
 
 fn left_over(random: &mut Random) -> Vec<Case> {
     let requests = samples(random);
     let malformed = wire_checks::with_octets_left_over(random, &requests);
-    between_well_formed(random, malformed)
+    wire_checks::between(random, malformed, well_formed)
 }
 
 /// Rooms of more than 512 numbers, and messages of more than 255 octets.
@@ -107,7 +97,7 @@ fn above_limit(random: &mut Random) -> Vec<Case> {
     requests.push(vec![3, 0xC0, 1, 0xFF, 0xFF]);
     requests.push(vec![4, 2, 2, 0xFF, 0xFF]);
     let malformed = requests.into_iter().map(wire_checks::malformed).collect();
-    between_well_formed(random, malformed)
+    wire_checks::between(random, malformed, well_formed)
 }
 
 /// The longest runs, buffers and lists are no malformed requests.
@@ -138,5 +128,5 @@ fn other_counts(random: &mut Random) -> Vec<Case> {
             malformed.push(wire_checks::malformed(request));
         }
     }
-    between_well_formed(random, malformed)
+    wire_checks::between(random, malformed, well_formed)
 }

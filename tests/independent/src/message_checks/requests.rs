@@ -5,6 +5,12 @@ use crate::message::{self, Meaning};
 use crate::random::Random;
 use crate::wire::{Row, MOST_LENT};
 
+/// Puts octets to an operation on a message.
+pub type Put = fn(&mut Random, &[u8]) -> Case;
+
+/// A family of messages, put to the operation that is given.
+pub type Family = fn(&mut Random, Put) -> Vec<Case>;
+
 const READER: &str = "message reader";
 const WRITER: &str = "message writer";
 const READER_OPERATION: u8 = 3;

@@ -19,7 +19,7 @@ const WRITE_THEN_READ: &str = "message writer, then message reader";
 const READ_THEN_WRITE: &str = "message reader, then message writer, then reader";
 
 /// The message in a writer's reply of success.
-fn message_written(reply: &[u8]) -> Result<&[u8], String> {
+pub fn message_written(reply: &[u8]) -> Result<&[u8], String> {
     let mut fields = Fields::of(reply);
     let parts = (fields.u8(), fields.u16(), fields.run(), fields.is_empty());
     let message = match parts {

@@ -159,3 +159,12 @@ pub fn random_code(random: &mut Random, farthest: usize) -> Code {
         _ => Code::new(f, s, t, n),
     }
 }
+
+/// Every parameter of a field that stands near the front, those of all tables
+/// among them.
+pub fn near_front(f: u32) -> impl Iterator<Item = Code> {
+    let parts = |s| (0..=3).flat_map(move |t| (0..=40).map(move |n| (s, t, n)));
+    let codes = (0..=12).flat_map(parts);
+    let codes = codes.map(move |(s, t, n)| Code::new(f, s, t, n));
+    codes.filter(|code| code.is_possible())
+}

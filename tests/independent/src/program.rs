@@ -1,7 +1,7 @@
-//! The probe program as a child process: requests go to its standard input,
-//! replies come from its standard output.
+//! A program under comparison as a child process: requests go to its standard
+//! input, replies come from its standard output.
 
-use crate::wire;
+use crate::wire::{self, Separated};
 use std::io::{self, Read, Write};
 use std::path::PathBuf;
 use std::process::{Child, Command, Stdio};
@@ -9,32 +9,42 @@ use std::sync::mpsc;
 use std::thread;
 use std::time::Duration;
 
-/// Far more than any row of requests needs; a probe that hangs is ended then.
+/// Far more than any row of requests needs; a program that hangs is ended then.
 const PATIENCE: Duration = Duration::from_secs(60);
 
-pub struct Probe {
-    program: PathBuf,
+/// How requests stand in a row, and how the replies are told apart.
+pub struct Manner {
+    pub joined: fn(&[Vec<u8>]) -> Vec<u8>,
+    pub separated: fn(&[u8]) -> Separated,
+}
+
+pub struct Program {
+    name: &'static str,
+    file: PathBuf,
+    manner: Manner,
     has_hung: bool,
 }
 
-/// What a probe left behind: all it wrote, and how it ended.
+/// What a program left behind: all it wrote, and how it ended.
 pub struct Ended {
     pub output: Vec<u8>,
     pub well: bool,
 }
 
-impl Probe {
-    pub fn new(program: PathBuf) -> Probe {
-        Probe {
-            program,
+impl Program {
+    pub fn new(name: &'static str, file: PathBuf, manner: Manner) -> Program {
+        Program {
+            name,
+            file,
+            manner,
             has_hung: false,
         }
     }
 
-    /// Starts the probe, gives it the requests and takes one reply for each.
+    /// Starts the program, gives it the requests and takes one reply for each.
     pub fn ask(&mut self, requests: &[Vec<u8>]) -> Result<Vec<Vec<u8>>, String> {
-        let ended = self.converse(wire::joined(requests))?;
-        let (replies, left_over) = wire::separated(&ended.output);
+        let ended = self.converse((self.manner.joined)(requests))?;
+        let (replies, left_over) = (self.manner.separated)(&ended.output);
         if let Some(unanswered) = requests.get(replies.len()) {
             return Err(format!(
                 "{} replies to {} requests, no reply to request {}",
@@ -44,35 +54,38 @@ impl Probe {
             ));
         }
         if replies.len() > requests.len() || left_over > 0 {
-            return Err("the probe wrote more than its replies".to_string());
+            return Err(format!("the {} wrote more than its replies", self.name));
         }
         if !ended.well {
-            return Err("the probe ended with a failure status".to_string());
+            return Err(format!("the {} ended with a failure status", self.name));
         }
         Ok(replies)
     }
 
-    /// Starts the probe and gives it the input to its end. Writing has a
+    /// Starts the program and gives it the input to its end. Writing has a
     /// thread of its own, since a full pipe would stop both programs.
     pub fn converse(&mut self, input: Vec<u8>) -> Result<Ended, String> {
         if self.has_hung {
-            return Err("not asked, since the probe has hung before".to_string());
+            return Err(format!(
+                "not asked, since the {} has hung before",
+                self.name
+            ));
         }
-        let mut child = Command::new(&self.program)
+        let mut child = Command::new(&self.file)
             .stdin(Stdio::piped())
             .stdout(Stdio::piped())
             .spawn()
-            .map_err(|error| format!("the probe does not start: {error}"))?;
-        let mut to_probe = child.stdin.take().expect("standard input is piped");
+            .map_err(|error| format!("the {} does not start: {error}", self.name))?;
+        let mut to_program = child.stdin.take().expect("standard input is piped");
         thread::spawn(move || {
-            // A probe that stops reading early is noticed by its replies.
-            let _ = to_probe.write_all(&input);
+            // A program that stops reading early is noticed by its replies.
+            let _ = to_program.write_all(&input);
         });
         let Some(output) = output_in_time(&mut child) else {
             self.has_hung = true;
             let ended = child.kill().and_then(|()| child.wait());
             ended.map_err(|error| error.to_string())?;
-            return Err("the probe does not end at the end of its input".to_string());
+            return Err(format!("the {} does not end with its input", self.name));
         };
         let status = child.wait().map_err(|error| error.to_string())?;
         let output = output.map_err(|error| error.to_string())?;
@@ -83,11 +96,11 @@ impl Probe {
 
 /// All that the child writes; nothing if it takes too long.
 fn output_in_time(child: &mut Child) -> Option<io::Result<Vec<u8>>> {
-    let mut from_probe = child.stdout.take().expect("standard output is piped");
+    let mut from_program = child.stdout.take().expect("standard output is piped");
     let (hand_over, receive) = mpsc::channel();
     thread::spawn(move || {
         let mut output = Vec::new();
-        let outcome = from_probe.read_to_end(&mut output).map(|_| output);
+        let outcome = from_program.read_to_end(&mut output).map(|_| output);
         // Nobody waits for the output any more once the time is up.
         let _ = hand_over.send(outcome);
     });

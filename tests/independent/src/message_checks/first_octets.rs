@@ -1,22 +1,17 @@
-//! The reader's first octet: types known and unknown, every revision, and
-//! what may stand behind.
+//! The first octet: types known and unknown, every revision, and what may
+//! stand behind.
 
 use super::layout::Layout;
 use super::requests::*;
-use crate::bench::{Case, Check};
+use crate::bench::Case;
 use crate::random::Random;
 
-pub fn checks() -> Vec<Check> {
-    vec![
-        Check::of_cases("message reader: every first octet alone", alone),
-        Check::of_cases("message reader: every first octet with fields", with_fields),
-        Check::of_cases(
-            "message reader: every first octet with anything",
-            with_anything,
-        ),
-        Check::of_cases("message reader: octets behind ACK and NAK", behind_bare),
-    ]
-}
+pub const FAMILIES: [(&str, Family); 4] = [
+    ("every first octet alone", alone),
+    ("every first octet with fields", with_fields),
+    ("every first octet with anything", with_anything),
+    ("octets behind ACK and NAK", behind_bare),
+];
 
 /// The number due to a message whose octets behind the first are well-formed
 /// fields, or none.
@@ -30,48 +25,48 @@ fn due(first: u8, behind: &[u8]) -> u8 {
     }
 }
 
-fn case(random: &mut Random, first: u8, behind: &[u8]) -> Case {
-    heard(random, &[&[first], behind].concat())
+fn case(random: &mut Random, put: Put, first: u8, behind: &[u8]) -> Case {
+    put(random, &[&[first], behind].concat())
 }
 
-fn alone(random: &mut Random) -> Vec<Case> {
+fn alone(random: &mut Random, put: Put) -> Vec<Case> {
     let firsts = 0..=255;
     firsts
-        .map(|first| case(random, first, &[]).due(due(first, &[])))
+        .map(|first| case(random, put, first, &[]).due(due(first, &[])))
         .collect()
 }
 
-fn with_fields(random: &mut Random) -> Vec<Case> {
+fn with_fields(random: &mut Random, put: Put) -> Vec<Case> {
     let mut cases = Vec::new();
     for first in 0..=255 {
         let smallest = vec![0x80; 4];
         let any = Layout::any(random).octets().split_off(1);
         let any_more = Layout::any(random).octets().split_off(1);
         for behind in [smallest, any, any_more] {
-            cases.push(case(random, first, &behind).due(due(first, &behind)));
+            cases.push(case(random, put, first, &behind).due(due(first, &behind)));
         }
     }
     cases
 }
 
-fn with_anything(random: &mut Random) -> Vec<Case> {
+fn with_anything(random: &mut Random, put: Put) -> Vec<Case> {
     let mut cases = Vec::new();
     for first in 0..=255 {
         for length in [1, random.within(2, 6), random.within(7, 63)] {
             let behind = random.octets(length);
-            cases.push(case(random, first, &behind));
+            cases.push(case(random, put, first, &behind));
         }
     }
     cases
 }
 
-fn behind_bare(random: &mut Random) -> Vec<Case> {
+fn behind_bare(random: &mut Random, put: Put) -> Vec<Case> {
     let mut cases = Vec::new();
     for kind in BARE {
         for octet in [0x00, 0x40, 0x80, 0xC0, 0xFF, random.octet()] {
             for length in [1, 2, 3, 4, 5, 63] {
                 let first = (random.octet() << 4) | kind;
-                cases.push(case(random, first, &vec![octet; length]).due(4));
+                cases.push(case(random, put, first, &vec![octet; length]).due(4));
             }
         }
     }

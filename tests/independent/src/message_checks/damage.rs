@@ -2,31 +2,20 @@
 
 use super::layout::Layout;
 use super::requests::*;
-use crate::bench::{Case, Check};
+use crate::bench::Case;
 use crate::random::Random;
 
-pub fn checks() -> Vec<Check> {
-    vec![
-        Check::of_cases("message reader: one bit inverted, every bit", one_inverted),
-        Check::of_cases("message reader: two bits inverted", two_inverted),
-        Check::of_cases("message reader: cut at every length", cut),
-        Check::of_cases(
-            "message reader: one octet removed, every octet",
-            one_removed,
-        ),
-        Check::of_cases("message reader: one octet added, every place", one_added),
-        Check::of_cases("message reader: two octets exchanged", exchanged),
-        Check::of_cases(
-            "message reader: random octets of every length",
-            random_octets,
-        ),
-        Check::of_cases(
-            "message reader: random fields of every length",
-            random_fields,
-        ),
-        Check::of_cases("message reader: all short Par(2) blocks", short_par_2),
-    ]
-}
+pub const FAMILIES: [(&str, Family); 9] = [
+    ("one bit inverted, every bit", one_inverted),
+    ("two bits inverted", two_inverted),
+    ("cut at every length", cut),
+    ("one octet removed, every octet", one_removed),
+    ("one octet added, every place", one_added),
+    ("two octets exchanged", exchanged),
+    ("random octets of every length", random_octets),
+    ("random fields of every length", random_fields),
+    ("all short Par(2) blocks", short_par_2),
+];
 
 /// Whole messages, many of them not minimal, some of 64 octets.
 fn some_layouts(random: &mut Random, count: usize) -> Vec<Layout> {
@@ -45,19 +34,26 @@ fn some_messages(random: &mut Random, count: usize) -> Vec<Vec<u8>> {
     layouts.iter().map(Layout::octets).collect()
 }
 
-fn one_inverted(random: &mut Random) -> Vec<Case> {
+/// The octets with one bit inverted, each in turn.
+pub fn each_bit_inverted(octets: &[u8]) -> impl Iterator<Item = Vec<u8>> + '_ {
+    (0..8 * octets.len()).map(|place| {
+        let mut damaged = octets.to_vec();
+        damaged[place / 8] ^= 1 << (place % 8);
+        damaged
+    })
+}
+
+fn one_inverted(random: &mut Random, put: Put) -> Vec<Case> {
     let mut cases = Vec::new();
     for message in some_messages(random, 100) {
-        for place in 0..8 * message.len() {
-            let mut damaged = message.clone();
-            damaged[place / 8] ^= 1 << (place % 8);
-            cases.push(heard(random, &damaged));
+        for damaged in each_bit_inverted(&message) {
+            cases.push(put(random, &damaged));
         }
     }
     cases
 }
 
-fn two_inverted(random: &mut Random) -> Vec<Case> {
+fn two_inverted(random: &mut Random, put: Put) -> Vec<Case> {
     let mut cases = Vec::new();
     for message in some_messages(random, 150) {
         for _ in 0..15 {
@@ -65,7 +61,7 @@ fn two_inverted(random: &mut Random) -> Vec<Case> {
             for _ in 0..2 {
                 damaged[random.below(message.len())] ^= 1 << random.below(8);
             }
-            cases.push(heard(random, &damaged));
+            cases.push(put(random, &damaged));
         }
     }
     cases
@@ -73,13 +69,13 @@ fn two_inverted(random: &mut Random) -> Vec<Case> {
 
 /// What is cut before the end of NS is no message, unless one of its blocks
 /// ends there.
-fn cut(random: &mut Random) -> Vec<Case> {
+fn cut(random: &mut Random, put: Put) -> Vec<Case> {
     let mut cases = Vec::new();
     for layout in some_layouts(random, 150) {
         let message = layout.octets();
         let end_of_fields = message.len() - layout.non_standard.len();
         for length in 0..message.len() {
-            let case = heard(random, &message[..length]);
+            let case = put(random, &message[..length]);
             cases.push(match length {
                 0 => case.due(2),
                 _ if length <= end_of_fields => case.due(4),
@@ -90,49 +86,49 @@ fn cut(random: &mut Random) -> Vec<Case> {
     cases
 }
 
-fn one_removed(random: &mut Random) -> Vec<Case> {
+fn one_removed(random: &mut Random, put: Put) -> Vec<Case> {
     let mut cases = Vec::new();
     for message in some_messages(random, 100) {
         for place in 0..message.len() {
             let mut damaged = message.clone();
             damaged.remove(place);
-            cases.push(heard(random, &damaged));
+            cases.push(put(random, &damaged));
         }
     }
     cases
 }
 
-fn one_added(random: &mut Random) -> Vec<Case> {
+fn one_added(random: &mut Random, put: Put) -> Vec<Case> {
     let mut cases = Vec::new();
     for message in some_messages(random, 110) {
         for place in 0..=message.len() {
             let mut damaged = message.clone();
             let any = random.octet();
             damaged.insert(place, random.pick(&[0x00, 0x40, 0x80, 0xC0, any]));
-            cases.push(heard(random, &damaged));
+            cases.push(put(random, &damaged));
         }
     }
     cases
 }
 
-fn exchanged(random: &mut Random) -> Vec<Case> {
+fn exchanged(random: &mut Random, put: Put) -> Vec<Case> {
     let mut cases = Vec::new();
     for message in some_messages(random, 100) {
         for _ in 0..10 {
             let mut damaged = message.clone();
             damaged.swap(random.below(message.len()), random.below(message.len()));
-            cases.push(heard(random, &damaged));
+            cases.push(put(random, &damaged));
         }
     }
     cases
 }
 
-fn random_octets(random: &mut Random) -> Vec<Case> {
+fn random_octets(random: &mut Random, put: Put) -> Vec<Case> {
     let mut cases = Vec::new();
     for length in 0..=70 {
         for _ in 0..25 {
             let octets = random.octets(length);
-            cases.push(heard(random, &octets));
+            cases.push(put(random, &octets));
         }
     }
     cases
@@ -147,7 +143,7 @@ fn likely_octet(random: &mut Random) -> u8 {
 }
 
 /// A good first octet and likely ones behind it, so that many are messages.
-fn random_fields(random: &mut Random) -> Vec<Case> {
+fn random_fields(random: &mut Random, put: Put) -> Vec<Case> {
     let mut cases = Vec::new();
     for length in 1..=70 {
         let turns = if length < 20 { 140 } else { 20 };
@@ -155,7 +151,7 @@ fn random_fields(random: &mut Random) -> Vec<Case> {
             let first = (random.octet() << 4) | random.pick(&WITH_FIELDS);
             let mut octets = vec![first];
             octets.extend((1..length).map(|_| likely_octet(random)));
-            cases.push(heard(random, &octets));
+            cases.push(put(random, &octets));
         }
     }
     cases
@@ -163,14 +159,14 @@ fn random_fields(random: &mut Random) -> Vec<Case> {
 
 /// Every row of one to four octets, each with one of a few contents and any
 /// marks, as the only Par(2) block of S.
-fn short_par_2(random: &mut Random) -> Vec<Case> {
+fn short_par_2(random: &mut Random, put: Put) -> Vec<Case> {
     const OCTETS: [u8; 8] = [0x00, 0x01, 0x40, 0x41, 0x80, 0x81, 0xC0, 0xC1];
     let mut cases = Vec::new();
     for length in 1..=4 {
         for number in 0..OCTETS.len().pow(length) {
             let mut octets = vec![0x22, 0x80, 0x80, 0x80, 0x81];
             octets.extend((0..length).map(|place| OCTETS[number >> (3 * place) & 7]));
-            cases.push(heard(random, &octets));
+            cases.push(put(random, &octets));
         }
     }
     cases

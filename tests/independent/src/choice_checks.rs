@@ -1,0 +1,29 @@
+//! The checks of own table, wishes, choice and verdict.
+
+mod choices;
+mod drawn;
+mod known;
+mod own_tables;
+mod requests;
+mod single;
+mod verdicts;
+mod wishes;
+
+pub use requests::chooser;
+
+use crate::bench::{Asked, Layer};
+
+pub fn layer() -> Layer {
+    let mut checks = known::checks();
+    checks.extend(single::checks());
+    checks.extend(own_tables::checks());
+    checks.extend(wishes::checks());
+    checks.extend(choices::checks());
+    checks.extend(verdicts::checks());
+    Layer {
+        asked: Asked::Chooser,
+        checks,
+        outcomes: requests::outcomes(),
+        often_enough: 1000,
+    }
+}

@@ -1,0 +1,166 @@
+//! Requests to the chooser, and their cases.
+
+use crate::bench::{Case, Outcome};
+use crate::choice::{Choice, Verdict};
+use crate::message;
+use crate::message_checks::layout::Layout;
+use crate::program::{Manner, Program};
+use crate::tables::{self, Tables};
+use crate::wire::{Row, Separated};
+use std::path::PathBuf;
+
+const REPLY_OCTETS: usize = 6;
+const NO_CHOICE: u8 = 11;
+
+struct Operation {
+    number: u8,
+    name: &'static str,
+    replies: &'static [u8],
+}
+
+const CHECK: Operation = Operation {
+    number: 1,
+    name: "own table and wishes",
+    replies: &[0, 2, 3, 4],
+};
+
+const FIRST_READY: Operation = Operation {
+    number: 2,
+    name: "choice without far list",
+    replies: &[0, NO_CHOICE],
+};
+
+const CHOICE: Operation = Operation {
+    number: 3,
+    name: "choice",
+    replies: &[0, NO_CHOICE],
+};
+
+const VERDICT: Operation = Operation {
+    number: 4,
+    name: "verdict",
+    replies: &[0, 2, 3],
+};
+
+pub fn outcomes() -> Vec<Outcome> {
+    let of_operation = |operation: Operation| {
+        let numbers = operation.replies.iter();
+        numbers.map(move |&number| operation.outcome(number))
+    };
+    let operations = [CHECK, FIRST_READY, CHOICE, VERDICT];
+    operations.into_iter().flat_map(of_operation).collect()
+}
+
+/// The chooser: requests stand in a row as they are, and all replies have the
+/// same length.
+pub fn chooser(file: PathBuf) -> Program {
+    let manner = Manner {
+        joined: |requests| requests.concat(),
+        separated,
+    };
+    Program::new("chooser", file, manner)
+}
+
+fn separated(output: &[u8]) -> Separated {
+    let replies = output.chunks_exact(REPLY_OCTETS);
+    let left_over = replies.remainder().len();
+    (replies.map(<[u8]>::to_vec).collect(), left_over)
+}
+
+/// A far message, or its S field alone, and where that field begins.
+#[derive(Clone)]
+pub struct Far {
+    pub octets: Vec<u8>,
+    pub place: usize,
+}
+
+impl Far {
+    const NONE: Far = Far {
+        octets: Vec::new(),
+        place: 0,
+    };
+
+    pub fn of(layout: &Layout) -> Far {
+        Far {
+            octets: layout.octets(),
+            place: layout.standard_place(),
+        }
+    }
+
+    pub fn struck(layout: &Layout) -> Far {
+        let octets = message::struck(&layout.octets()).expect("a message");
+        let place = message::standard_place(&octets).expect("a message with fields");
+        Far { octets, place }
+    }
+
+    fn parameters(&self) -> message::Parameters {
+        let field = &self.octets[self.place..];
+        message::parameters_in_front(field).expect("a well-formed field")
+    }
+}
+
+impl Operation {
+    fn outcome(&self, number: u8) -> Outcome {
+        Outcome {
+            operation: self.name,
+            number,
+        }
+    }
+
+    fn request(&self, own: &[u8], wishes: &[u8], far: &Far) -> Vec<u8> {
+        let row = Row::new().u8(self.number).u8(own.len() as u8);
+        let row = row.u8(far.octets.len() as u8).u8(far.place as u8);
+        let row = row.u16(wishes.len() as u16);
+        row.octets(own).octets(wishes).octets(&far.octets).done()
+    }
+
+    /// The case of a request that is answered with a number alone.
+    fn case(&self, request: Vec<u8>, number: u8) -> Case {
+        let reply = Row::new().u8(number).octets(&[0; REPLY_OCTETS - 1]).done();
+        Case::new(request, reply, self.outcome(number))
+    }
+
+    /// The case of a request that is answered with a wish, or without one.
+    fn choice_case(&self, request: Vec<u8>, choice: Option<Choice>) -> Case {
+        let Some(Choice { number, wish }) = choice else {
+            return self.case(request, NO_CHOICE);
+        };
+        let row = Row::new().u8(0).u8(number as u8);
+        let row = row.u16(wish.place as u16).u16(wish.length as u16);
+        Case::new(request, row.done(), self.outcome(0))
+    }
+}
+
+fn good_tables(own: &[u8], wishes: &[u8]) -> Tables {
+    Tables::of_octets(own, wishes).expect("a good own table and good wishes")
+}
+
+/// Octets of any kind as own table and wishes.
+pub fn check(own: &[u8], wishes: &[u8]) -> Case {
+    let request = CHECK.request(own, wishes, &Far::NONE);
+    CHECK.case(request, tables::check(own, wishes))
+}
+
+/// The choice without a far list.
+pub fn first_ready(own: &[u8], wishes: &[u8]) -> Case {
+    let tables = good_tables(own, wishes);
+    let request = FIRST_READY.request(own, wishes, &Far::NONE);
+    FIRST_READY.choice_case(request, tables.first_ready())
+}
+
+/// The choice from a far list.
+pub fn choice(own: &[u8], wishes: &[u8], far: &Far) -> Case {
+    let tables = good_tables(own, wishes);
+    let choice = tables.first_ready_common(&far.parameters());
+    CHOICE.choice_case(CHOICE.request(own, wishes, far), choice)
+}
+
+/// The verdict on a far MS.
+pub fn verdict(own: &[u8], wishes: &[u8], far: &Far) -> Case {
+    let number = match good_tables(own, wishes).verdict(&far.parameters()) {
+        Verdict::Accepted => 0,
+        Verdict::NotReady => 2,
+        Verdict::Unfit => 3,
+    };
+    VERDICT.case(VERDICT.request(own, wishes, far), number)
+}
