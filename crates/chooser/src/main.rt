@@ -77,7 +77,7 @@ fn answer_of_verdict(verdict: Verdict) -> Answer {
 }
 
 // The four operations; any other gets 255.
-fn answer(operation: u8, own: &[u8], wishes: &[u8], far: &[u8], place: usize) -> Answer {
+fn answer_to(operation: u8, own: &[u8], wishes: &[u8], far: &[u8], place: usize) -> Answer {
     match operation {
         1 => answer_of_tables(choice::check_tables(own, wishes)),
         2 => answer_of_choice(choice::first_ready(wishes)),
@@ -87,19 +87,29 @@ fn answer(operation: u8, own: &[u8], wishes: &[u8], far: &[u8], place: usize) ->
     }
 }
 
+fn wide(octet: u8) -> usize {
+    octet as usize
+}
+
+// The number that two octets make.
+fn joined(lower: u8, upper: u8) -> usize {
+    upper as usize * 256 + lower as usize
+}
+
 fn low(number: usize) -> u8 {
     (number % 256) as u8
 }
 
-// Reads a request and writes its reply. False where the input ends before the request does, or the output takes no more.
+// Reads a request and writes its reply. False where the input ends before the request does, the wishes are above their limit, or the
+// output takes no more.
 fn serve_one() -> bool {
     let mut head = [0u8; 6];
     if io::read_full(STDIN_FILENO, &mut head) < 6 {
         return false;
     }
-    let own_length = head[1] as usize;
-    let far_length = head[2] as usize;
-    let wishes_length = head[5] as usize * 256 + head[4] as usize;
+    let own_length = wide(head[1]);
+    let far_length = wide(head[2]);
+    let wishes_length = joined(head[4], head[5]);
     let mut own = [0u8; RUN_LIMIT];
     let mut wishes = [0u8; WISHES_LIMIT];
     let mut far = [0u8; RUN_LIMIT];
@@ -112,12 +122,12 @@ fn serve_one() -> bool {
     if io::read_full(STDIN_FILENO, first_mut(&mut far, far_length)) < far_length {
         return false;
     }
-    let reply = answer(
+    let reply = answer_to(
         head[0],
         first(&own, own_length),
         first(&wishes, wishes_length),
         first(&far, far_length),
-        head[3] as usize,
+        wide(head[3]),
     );
     let octets = [
         reply.no,
