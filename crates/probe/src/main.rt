@@ -3,6 +3,7 @@
 // form of a run (wire.rt). A request is the octet of its operation and the pieces that this takes.
 mod frames;
 mod messages;
+mod stations;
 mod wire;
 
 use libc::STDIN_FILENO;
@@ -25,6 +26,7 @@ fn answer(request: &[u8], reply: &mut [u8]) -> usize {
         3 => messages::message_reader(request, reply),
         4 => messages::message_writer(request, reply),
         5 => messages::striking(request, reply),
+        6 => stations::station_step(request, reply),
         _ => wire::put_refusal(reply),
     }
 }

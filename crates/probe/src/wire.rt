@@ -12,12 +12,14 @@ const CUT: usize = 65536;
 // Where the pieces of a request start, behind the octet of its operation.
 pub(crate) const PIECES: usize = 1;
 
-// The width of a number, in octets: U8, U16 or U32.
+// The width of a number, in octets: U8, U16, U32 or U64.
 pub(crate) const U8: usize = 1;
 
 pub(crate) const U16: usize = 2;
 
 pub(crate) const U32: usize = 4;
+
+pub(crate) const U64: usize = 8;
 
 // The most octets of a run or buffer.
 pub(crate) const RUN_LIMIT: usize = 255;

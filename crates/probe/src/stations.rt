@@ -1,0 +1,244 @@
+// Operation 6: one step of the station.
+use super::wire;
+use super::wire::RUN_LIMIT;
+use super::wire::U8;
+use super::wire::U16;
+use super::wire::U64;
+use station::Event;
+use station::Sends;
+use station::Signal;
+use station::Start;
+use station::Stepped;
+use station::Told;
+use table::OnCrD;
+use table::OnCrE;
+use table::OnMrD;
+use table::OnMrE;
+use table::Phase;
+use table::Settings;
+use table::State;
+
+// Where the pieces of a request start: phase u8, entry u64, wish u8, ACK asked u8, seven settings of one octet each, the own table.
+const PHASE_AT: usize = 1;
+
+const ENTRY_AT: usize = 2;
+
+const WISH_AT: usize = 10;
+
+const ACK_AT: usize = 11;
+
+const SETTINGS_AT: usize = 12;
+
+const OWN_AT: usize = 19;
+
+// The most octets of the wishes.
+const WISHES_LIMIT: usize = 2048;
+
+// A number of the event's `what` behind the last for each event.
+fn what_limit(event: u64) -> u64 {
+    match event {
+        0 => 7,
+        1 => 4,
+        2 => 1,
+        3 => 1,
+        4 => 1,
+        5 => 1,
+        _ => 0,
+    }
+}
+
+// The phase, ACK asked and the settings are in their lists.
+fn is_listed(request: &[u8]) -> bool {
+    wire::octet(request, PHASE_AT) <= 11
+        && wire::octet(request, ACK_AT) <= 1
+        && wire::octet(request, SETTINGS_AT) <= 1
+        && wire::octet(request, SETTINGS_AT + 1) <= 1
+        && wire::octet(request, SETTINGS_AT + 2) <= 1
+        && wire::octet(request, SETTINGS_AT + 3) <= 2
+        && wire::octet(request, SETTINGS_AT + 4) <= 1
+        && wire::octet(request, SETTINGS_AT + 5) <= 1
+        && wire::octet(request, SETTINGS_AT + 6) <= 1
+}
+
+// The state of a request.
+fn state_at(request: &[u8]) -> State {
+    let entry = wire::read_number(request, ENTRY_AT, U64).value;
+    let wish = wire::octet(request, WISH_AT);
+    let ack = wire::octet(request, ACK_AT) == 1;
+    let phase = match wire::octet(request, PHASE_AT) {
+        0 => Phase::Initial(entry),
+        1 => Phase::AskedE(entry),
+        2 => Phase::AskedD(entry),
+        3 => Phase::ListsE(entry),
+        4 => Phase::ListsD(entry),
+        5 => Phase::Counter(entry),
+        6 => Phase::Listed(entry),
+        7 => Phase::Traded(entry),
+        8 => Phase::Pair(entry),
+        9 => Phase::Half(entry),
+        10 => Phase::Proposed(entry, wish, ack),
+        _ => Phase::Mode(entry, wish, ack),
+    };
+    State { phase }
+}
+
+// The settings of a request.
+fn settings_at(request: &[u8]) -> Settings {
+    let mre = match wire::octet(request, SETTINGS_AT + 3) {
+        0 => OnMrE::WithMs,
+        1 => OnMrE::WithMrD,
+        _ => OnMrE::WithCrD,
+    };
+    let crd = match wire::octet(request, SETTINGS_AT + 4) {
+        0 => OnCrD::WithCl,
+        _ => OnCrD::WithClr,
+    };
+    let cre = match wire::octet(request, SETTINGS_AT + 5) {
+        0 => OnCrE::AsOnCrD,
+        _ => OnCrE::ByCrD,
+    };
+    let mrd = match wire::octet(request, SETTINGS_AT + 6) {
+        0 => OnMrD::ByMs,
+        _ => OnMrD::ByLists,
+    };
+    Settings {
+        eight: wire::octet(request, SETTINGS_AT) == 1,
+        short: wire::octet(request, SETTINGS_AT + 1) == 1,
+        ack: wire::octet(request, SETTINGS_AT + 2) == 1,
+        mre,
+        crd,
+        cre,
+        mrd,
+    }
+}
+
+fn start_of(what: u64) -> Start {
+    match what {
+        0 => Start::MrEFirst,
+        1 => Start::MrDFirst,
+        2 => Start::CrEFirst,
+        3 => Start::CrDFirst,
+        4 => Start::MsFirst,
+        5 => Start::ClFirst,
+        _ => Start::ClrFirst,
+    }
+}
+
+fn signal_of(what: u64) -> Signal {
+    match what {
+        0 => Signal::MrE,
+        1 => Signal::MrD,
+        2 => Signal::CrE,
+        _ => Signal::CrD,
+    }
+}
+
+fn event_of(event: u64, what: u64) -> Event {
+    match event {
+        0 => Event::Begin(start_of(what)),
+        1 => Event::Tones(signal_of(what)),
+        2 => Event::Field,
+        3 => Event::InvalidFrame,
+        4 => Event::Answer,
+        _ => Event::Reset,
+    }
+}
+
+// Request: state, settings, own table, wishes, event u8, what u8, field, time u64, out, store. Reply: no u8, the state, signal u8, the
+// lengths of the first and second field and of what was stored, u16 each, out, store.
+pub(crate) fn station_step(request: &[u8], reply: &mut [u8]) -> usize {
+    let own = wire::read_run(request, OWN_AT, RUN_LIMIT);
+    let wishes = wire::read_run(request, own.end, WISHES_LIMIT);
+    let event = wire::read_number(request, wishes.end, U8);
+    let what = wire::read_number(request, event.end, U8);
+    let field = wire::read_run(request, what.end, RUN_LIMIT);
+    let time = wire::read_number(request, field.end, U64);
+    let out = wire::read_run(request, time.end, RUN_LIMIT);
+    let store = wire::read_run(request, out.end, RUN_LIMIT);
+    if store.end != request.len() || !is_listed(request) || what_limit(event.value) <= what.value {
+        return wire::put_refusal(reply);
+    }
+    let mut output = [0u8; RUN_LIMIT];
+    let room = wire::put_octets(&mut output, 0, wire::octets_of(request, out));
+    let mut kept = [0u8; RUN_LIMIT];
+    let size = wire::put_octets(&mut kept, 0, wire::octets_of(request, store));
+    let stepped = station::step(
+        state_at(request),
+        settings_at(request),
+        wire::octets_of(request, own),
+        wire::octets_of(request, wishes),
+        event_of(event.value, what.value),
+        wire::octets_of(request, field),
+        time.value,
+        wire::first_mut(&mut output, room),
+        wire::first_mut(&mut kept, size),
+    );
+    let out_at = put_stepped(reply, stepped);
+    let store_at = wire::put_run(reply, out_at, &output, room);
+    wire::put_run(reply, store_at, &kept, size)
+}
+
+// What a step answers, before the buffers.
+fn put_stepped(reply: &mut [u8], stepped: Stepped) -> usize {
+    let told = stepped.told;
+    let signal = stepped.signal;
+    let state = stepped.state;
+    let phase = state.phase;
+    let phase_at = wire::put_number(reply, 0, U8, number_of(told));
+    let signal_at = put_phase(reply, phase_at, phase);
+    let first_at = wire::put_number(reply, signal_at, U8, number_of_signal(signal));
+    let second_at = wire::put_number(reply, first_at, U16, stepped.first as u64);
+    let stored_at = wire::put_number(reply, second_at, U16, stepped.second as u64);
+    wire::put_number(reply, stored_at, U16, stepped.stored as u64)
+}
+
+// Document 01's number.
+fn number_of(told: Told) -> u64 {
+    match told {
+        Told::Done => 0,
+        Told::SmallBuffers => 1,
+        Told::BadOwn => 2,
+        Told::BadWishes => 3,
+        Told::Outside => 4,
+        Told::TimeBefore => 5,
+        Told::TimedOut => 6,
+        Told::UnknownType => 9,
+        Told::NotInTable => 10,
+        Told::NothingToPropose => 11,
+    }
+}
+
+fn number_of_signal(signal: Sends) -> u64 {
+    match signal {
+        Sends::NoSignal => 0,
+        Sends::SendsMrE => 1,
+        Sends::SendsMrD => 2,
+        Sends::SendsCrE => 3,
+        Sends::SendsCrD => 4,
+    }
+}
+
+// A phase: its number, entry u64, wish u8, ACK asked u8.
+fn put_phase(reply: &mut [u8], at: usize, phase: Phase) -> usize {
+    let entry_at = wire::put_number(reply, at, U8, number_of_phase(phase));
+    let wish_at = wire::put_number(reply, entry_at, U64, table::entry_of(phase));
+    let ack_at = wire::put_number(reply, wish_at, U8, table::wish_of(phase) as u64);
+    wire::put_number(reply, ack_at, U8, table::ack_of(phase) as u64)
+}
+
+fn number_of_phase(phase: Phase) -> u64 {
+    match phase {
+        Phase::Initial(_) => 0,
+        Phase::AskedE(_) => 1,
+        Phase::AskedD(_) => 2,
+        Phase::ListsE(_) => 3,
+        Phase::ListsD(_) => 4,
+        Phase::Counter(_) => 5,
+        Phase::Listed(_) => 6,
+        Phase::Traded(_) => 7,
+        Phase::Pair(_) => 8,
+        Phase::Half(_) => 9,
+        Phase::Proposed(_, _, _) => 10,
+        Phase::Mode(_, _, _) => 11,
+    }
+}

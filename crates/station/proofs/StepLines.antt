@@ -1,0 +1,181 @@
+-- Single lines of document 01's station, each over steps: what is not looked at, reset, the time of a phase, what is spoilt, and that
+-- refusals send and write nothing.
+-- Assumes nothing.
+use Prim.Native.Nat.{ℕ, _+_, _-_, _<_, _≤_}
+use mathlib.Core.Bool.{Bool, true, false}
+use mathlib.Core.List.{List, [], _∷_, _++_}
+use mathlib.Core.Logic.{_⊎_, ⊎-elim}
+use mathlib.Core.Path.{_≡_, refl, sym, ap, _∙_}
+use native.Mathlib.Omega.{arith}
+use borrow.Author.Tests.{lt-ltb, le-ltb, ne-eqb}
+use lib.Dec.{eqb}
+use lib.ListN.{length, drop, length-append}
+use lib.Seq.{drop-append-seam}
+use Rattle.octets.specs.Lay.{put}
+use Rattle.octets.proofs.Laying.{put-nil}
+use Rattle.message.specs.Reader.{listRoom, readMessage, refused}
+use Rattle.choice.proofs.Truths.{never}
+use Rattle.table.specs.declared.Phase.{Phase}
+use Rattle.table.specs.declared.Phase.the-variants.{Initial}
+use Rattle.table.specs.declared.Kind.{Kind}
+use Rattle.table.specs.declared.Kind.the-variants.{AtMode}
+use Rattle.table.specs.declared.Heard.{Heard}
+use Rattle.table.specs.declared.Heard.the-variants.{AnswerTone, Spoilt}
+use Rattle.table.specs.declared.Act.{Act}
+use Rattle.table.specs.declared.Act.the-variants.{NoRow, SendMrE, SendMrD, CounterMrD, SendCrE, SendCrD, Propose, SendCl, SendClr, PairClr, Take, Judge, Agree, GiveUp, SendNak1}
+use Rattle.table.specs.declared.Settings.{Settings}
+use Rattle.table.specs.Phases.{kindOf, entryOf, ackOf}
+use Rattle.table.specs.Rows.{actOf}
+use Rattle.table.specs.Bound.{isOver}
+use Rattle.table.proofs.Lines.{each, within, spoilt-gets-nak1}
+use Rattle.station.specs.Sending.{sentNak}
+use Rattle.station.specs.Sorting.{known, sortOf, startHeard, signalHeard, isMessage}
+use Rattle.station.specs.Acting.{Outcome, quiet, sends, does, needsField}
+use Rattle.station.specs.Stepping.{longest, isMode, sorted, timed, checked, stepOf, Did}
+use Rattle.station.specs.declared.Event.{Event}
+use Rattle.station.specs.declared.Event.the-variants.{Begin, Tones, Field, InvalidFrame, Answer, Reset}
+use Rattle.station.specs.declared.Sends.the-variants.{NoSignal}
+use Rattle.station.specs.declared.Stepped.{Stepped}
+use Rattle.station.specs.declared.Told.the-variants.{Done, TimedOut}
+use Rattle.station.proofs.Needing.{bare-needs, hears-spoilt, start-bare, signal-bare}
+use Rattle.station.proofs.Following.{Given, steps, Sound, Due, refuses-6, follows, isActedOn, of-outcome}
+
+-- ---- the field is looked at only for Field
+
+abbrev pub isField : Event → Bool
+isField (Begin s) = false
+isField (Tones s) = false
+isField Field = true
+isField InvalidFrame = false
+isField Answer = false
+isField Reset = false
+
+module _ (p : Phase) (set : Settings) (own run m m′ : List ℕ) (time : ℕ) where
+  act-blind : (a : Act) → needsField a ≡ false → does a p set own run m time ≡ does a p set own run m′ time
+  act-blind NoRow e = refl
+  act-blind SendMrE e = refl
+  act-blind SendMrD e = refl
+  act-blind CounterMrD e = refl
+  act-blind SendCrE e = refl
+  act-blind SendCrD e = refl
+  act-blind Propose e = refl
+  act-blind SendCl e = refl
+  act-blind SendClr e = refl
+  act-blind PairClr e = refl
+  act-blind (Take after) e = never (sym e)
+  act-blind Judge e = never (sym e)
+  act-blind Agree e = refl
+  act-blind GiveUp e = refl
+  act-blind SendNak1 e = refl
+
+  heard-blind : (h : Heard) → isMessage h ≡ false → sorted (known h) p set own run m time ≡ sorted (known h) p set own run m′ time
+  heard-blind h e = act-blind (actOf (kindOf p) set (ackOf p) h) (bare-needs (kindOf p) set (ackOf p) h e)
+
+  sort-blind : (event : Event) → isField event ≡ false → sorted (sortOf event m) p set own run m time ≡ sorted (sortOf event m′) p set own run m′ time
+  sort-blind (Begin s) e = heard-blind (startHeard s) (start-bare s)
+  sort-blind (Tones s) e = heard-blind (signalHeard s) (signal-bare s)
+  sort-blind Field e = never (sym e)
+  sort-blind InvalidFrame e = heard-blind Spoilt refl
+  sort-blind Answer e = heard-blind AnswerTone refl
+  sort-blind Reset e = refl
+
+  -- for any other event it makes no difference what is lent as the field
+  pub field-unlooked : (event : Event) (outSize storeSize : ℕ) → isField event ≡ false
+      → stepOf p set own run event m time outSize storeSize ≡ stepOf p set own run event m′ time outSize storeSize
+  unfolding stepOf checked timed
+  field-unlooked event outSize storeSize e = rw (sort-blind event e)
+
+-- ---- reset
+
+-- it gives Initial, whatever else is given
+pub reset-initial : (p : Phase) (set : Settings) (own run m : List ℕ) (time outSize storeSize : ℕ)
+    → stepOf p set own run Reset m time outSize storeSize ≡ quiet Done (Initial time)
+unfolding stepOf
+reset-initial p set own run m time outSize storeSize = refl
+
+-- ---- the time of a phase
+
+over-mode : (k : Kind) → isOver k ≡ false → isMode k ≡ false
+over-mode =
+    each (λ (k : Kind). isOver k ≡ false → isMode k ≡ false)
+    (λ e. refl) (λ e. refl) (λ e. refl) (λ e. refl) (λ e. refl) (λ e. refl) (λ e. refl) (λ e. refl) (λ e. refl) (λ e. refl) (λ e. refl) (λ e. e)
+
+module _ (p : Phase) (g : Given) (s : Sound g) (n : isOver (kindOf p) ≡ false) where
+  -- in a phase that is neither Initial nor Mode an event is handled up to 5000 milliseconds after entry, and then 6
+  pub in-time-handled : entryOf p ≤ g .time → g .time ≤ entryOf p + longest → Due p g
+  in-time-handled a b =
+      record { sound = s; after = a; prompt = rw n (le-ltb longest (g .time - entryOf p) (omega arith)); awake = over-mode (kindOf p) n }
+
+  pub late-timed-out : entryOf p + longest < g .time → steps p g ≡ quiet TimedOut (Initial (g .time))
+  late-timed-out h = refuses-6 p g s (omega arith) (rw n (lt-ltb longest (g .time - entryOf p) (omega arith)))
+
+  pub at-5000-handled : g .time ≡ entryOf p + 5000 → Due p g
+  at-5000-handled e = in-time-handled (omega arith) (omega arith)
+
+  pub at-5001-timed-out : g .time ≡ entryOf p + 5001 → steps p g ≡ quiet TimedOut (Initial (g .time))
+  at-5001-timed-out e = late-timed-out (omega arith)
+
+-- ---- what is spoilt
+
+awake-nak : (k : Kind) → isMode k ≡ false → within (AtMode ∷ []) NoRow SendNak1 k ≡ SendNak1
+awake-nak =
+    each (λ (k : Kind). isMode k ≡ false → within (AtMode ∷ []) NoRow SendNak1 k ≡ SendNak1)
+    (λ e. refl) (λ e. refl) (λ e. refl) (λ e. refl) (λ e. refl) (λ e. refl) (λ e. refl) (λ e. refl) (λ e. refl) (λ e. refl) (λ e. refl) (λ e. never (sym e))
+
+module _ (p : Phase) (g : Given) (d : Due p g) where
+  spoilt-nak : sortOf (g .event) (g .field) ≡ known Spoilt → steps p g ≡ sends (sentNak 1) [] [] (Initial (g .time))
+  spoilt-nak e =
+      follows p g (record { due = d; heard = e })
+      ∙ rw (spoilt-gets-nak1 (g .set) (ackOf p) (kindOf p) ∙ awake-nak (kindOf p) (d .awake))
+
+  -- in every phase but Mode an invalid frame gives NAK(1) and Initial
+  pub invalid-frame-nak : g .event ≡ InvalidFrame → steps p g ≡ sends (sentNak 1) [] [] (Initial (g .time))
+  invalid-frame-nak e = spoilt-nak (rw e)
+
+  -- and so does a field that the message reader refuses with 2 or 4
+  pub refused-field-nak : (k : ℕ) → g .event ≡ Field → readMessage (g .field) listRoom ≡ refused k → (k ≡ 2) ⊎ (k ≡ 4) → steps p g ≡ sends (sentNak 1) [] [] (Initial (g .time))
+  refused-field-nak k e r t =
+      let other : eqb k 3 ≡ false = ne-eqb k 3 (λ three. ⊎-elim (λ two. omega arith) (λ four. omega arith) t) in
+      spoilt-nak (rw e (hears-spoilt (g .field) k r other .0))
+
+-- ---- refusals send nothing, and write nothing but what 11 has stored
+
+module _ (p : Phase) (g : Given) where
+  pub refusal-silent : (steps p g .told ≡ Done → ⊥) → (steps p g .signal ≡ NoSignal) × (steps p g .first ≡ []) × (steps p g .second ≡ [])
+  refusal-silent =
+      of-outcome (λ (o : Outcome). (o .told ≡ Done → ⊥) → (o .signal ≡ NoSignal) × (o .first ≡ []) × (o .second ≡ [])) p g
+      (λ t k n. (refl, refl, refl)) (λ n. (refl, refl, refl)) (λ stored n. (refl, refl, refl)) (λ o s n. absurd (n (s .told)))
+
+  pub refusal-stores-none : isActedOn (steps p g .told) ≡ false → steps p g .stored ≡ []
+  refusal-stores-none =
+      of-outcome (λ (o : Outcome). isActedOn (o .told) ≡ false → o .stored ≡ []) p g
+      (λ t k n. refl) (λ n. refl) (λ stored n. never (sym n)) (λ o s n. never (sym n ∙ ap isActedOn (s .told)))
+
+  module _ {out₀ out₁ store₀ store₁ : List ℕ} {r : Stepped} (d : Did (steps p g) out₀ store₀ r out₁ store₁) where
+    -- the output is as it was
+    pub refusal-keeps-output : (r .told ≡ Done → ⊥) → out₁ ≡ out₀
+    refusal-keeps-output n =
+        let q = refusal-silent (λ t. n (ap (λ (x : Stepped). x .told) (d .reply) ∙ t)) in
+        d .output ∙ rw (q .1, q .2) (put-nil out₀)
+
+    -- and so is the store, but for 11
+    pub refusal-keeps-store : isActedOn (r .told) ≡ false → store₁ ≡ store₀
+    refusal-keeps-store n =
+        d .store ∙ rw (refusal-stores-none (ap (λ (x : Stepped). isActedOn (x .told)) (sym (d .reply)) ∙ n)) (put-nil store₀)
+
+-- ---- what is not sent or stored stays
+
+-- behind what is put over its front a list is as it was
+put-behind : (xs d : List ℕ) (n : ℕ) → n ≡ length xs → drop n (put xs d) ≡ drop n d
+unfolding put
+put-behind xs d n e = rw e (drop-append-seam xs (drop (length xs) d))
+
+module _ {o : Outcome} {out₀ out₁ store₀ store₁ : List ℕ} {r : Stepped} (d : Did o out₀ store₀ r out₁ store₁) where
+  -- the output changes only where octets are sent
+  pub output-behind : drop (r .first + r .second) out₁ ≡ drop (r .first + r .second) out₀
+  output-behind =
+      rw (d .output) (put-behind (o .first ++ o .second) out₀ (r .first + r .second) (rw (d .reply) (sym (length-append (o .first) (o .second)))))
+
+  -- and the store only where octets are stored
+  pub store-behind : drop (r .stored) store₁ ≡ drop (r .stored) store₀
+  store-behind = rw (d .store) (put-behind (o .stored) store₀ (r .stored) (rw (d .reply)))

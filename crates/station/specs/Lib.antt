@@ -1,0 +1,4 @@
+pub mod Sending
+pub mod Sorting
+pub mod Acting
+pub mod Stepping
