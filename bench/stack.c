@@ -76,6 +76,7 @@ int main(void)
         wishes[i * (2 + FIELD) + 1] = FIELD;
         memcpy(wishes + i * (2 + FIELD) + 2, own, FIELD);
     }
+    memcpy(field + 3, own, FIELD);
     /* a CL gets an MS; a CLR a CL and an MS; an MS that asks for it gets ACK(1) */
     failed |= measure("step on a CL", kamvezhor_measure_list, 0x22, 3 + FIELD + FIELD);
     failed |= measure("step on a CLR", kamvezhor_measure_list, 0x23, 2 * (3 + FIELD) + FIELD);

@@ -1,7 +1,7 @@
 //! The checks of own table, wishes, choice and verdict.
 
 mod choices;
-mod drawn;
+pub mod drawn;
 mod known;
 mod own_tables;
 mod requests;

@@ -11,6 +11,9 @@ mod vectors;
 mod whole;
 mod writer;
 
+pub use runs::{flag_pair, reader_case, writer_request};
+pub use writer::run_written;
+
 use crate::bench::{Asked, Check, Layer};
 use std::path::Path;
 

@@ -155,6 +155,11 @@ pub fn minimal_form(octets: &[u8]) -> Option<Vec<u8>> {
     Some(message.octets())
 }
 
+/// The number with which the reader refuses the octets, if it does.
+pub fn refusal(octets: &[u8]) -> Option<u8> {
+    Message::of_octets(octets).err()
+}
+
 /// An answer of the reader. The list it was lent has so much room, and begins
 /// with the codes when it comes back.
 #[derive(Debug, Default, PartialEq)]

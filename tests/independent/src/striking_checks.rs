@@ -8,6 +8,8 @@ mod mixed;
 mod requests;
 mod single;
 
+pub use requests::request;
+
 use crate::bench::{Asked, Layer};
 use crate::message_checks::on_messages;
 

@@ -77,6 +77,16 @@ impl Tables {
         })
     }
 
+    /// The tables of these octets with every wish inside the own table, or the
+    /// number of what is wrong.
+    pub fn checked(own: &[u8], run: &[u8]) -> Result<Tables, u8> {
+        let tables = Tables::of_octets(own, run)?;
+        match tables.all_inside() {
+            true => Ok(tables),
+            false => Err(number::OUTSIDE),
+        }
+    }
+
     fn all_inside(&self) -> bool {
         let mut wishes = self.wishes.iter();
         wishes.all(|wish| wish.parameters.is_subset(&self.own))
@@ -85,11 +95,7 @@ impl Tables {
 
 /// The number that the check of own table and wishes gives.
 pub fn check(own: &[u8], run: &[u8]) -> u8 {
-    match Tables::of_octets(own, run) {
-        Err(number) => number,
-        Ok(tables) if tables.all_inside() => number::GOOD,
-        Ok(_) => number::OUTSIDE,
-    }
+    Tables::checked(own, run).err().unwrap_or(number::GOOD)
 }
 
 #[cfg(test)]

@@ -28,6 +28,11 @@ impl Row {
         self
     }
 
+    pub fn u64(mut self, number: u64) -> Row {
+        self.0.extend(number.to_le_bytes());
+        self
+    }
+
     pub fn octets(mut self, octets: &[u8]) -> Row {
         self.0.extend(octets);
         self
@@ -68,6 +73,11 @@ impl<'a> Fields<'a> {
     pub fn u32(&mut self) -> Option<u32> {
         let octets = self.octets(4)?;
         octets.try_into().map(u32::from_le_bytes).ok()
+    }
+
+    pub fn u64(&mut self) -> Option<u64> {
+        let octets = self.octets(8)?;
+        octets.try_into().map(u64::from_le_bytes).ok()
     }
 
     pub fn run(&mut self) -> Option<&'a [u8]> {
@@ -140,12 +150,13 @@ mod tests {
 
     #[test]
     fn fields_come_back() {
-        let row = Row::new().u8(7).u16(515).u32(70_000).run(&[1, 2, 3]);
-        let row = row.done();
+        let row = Row::new().u8(7).u16(515).u32(70_000);
+        let row = row.u64(1 << 40).run(&[1, 2, 3]).done();
         let mut fields = Fields::of(&row);
         assert_eq!(fields.u8(), Some(7));
         assert_eq!(fields.u16(), Some(515));
         assert_eq!(fields.u32(), Some(70_000));
+        assert_eq!(fields.u64(), Some(1 << 40));
         assert_eq!(fields.run(), Some(&[1, 2, 3][..]));
         assert!(fields.is_empty());
         assert_eq!(fields.u8(), None);

@@ -4,7 +4,6 @@ use super::drawn::*;
 use super::requests::Far;
 use crate::bench::{same_replies, Bench, Case, Check};
 use crate::message::Parameters;
-use crate::message_checks::layout::{Field, Layout};
 use crate::random::Random;
 
 const STRUCK_OR_NOT: &str = "choice: the same from a struck list";
@@ -203,26 +202,6 @@ fn field_alone(random: &mut Random) -> Vec<Case> {
         cases.push(drawn.choice(&far));
     }
     cases
-}
-
-/// Far lists that have much in common with the wishes, or nothing.
-fn any_list(random: &mut Random, drawn: &Drawn) -> Layout {
-    let far = match random.below(4) {
-        0 => return far_list_of_any_kind(random),
-        1 => some_parameters(random),
-        2 => part_of(random, &drawn.own),
-        _ => without_one(random, &drawn.own).0,
-    };
-    let noisy = with_noise(random, &far);
-    far_list(random, &noisy)
-}
-
-fn far_list_of_any_kind(random: &mut Random) -> Layout {
-    let standard = Layout::mixed(random).standard;
-    Layout {
-        kind: random.pick(&LISTS),
-        ..Layout::of_fields(random, Field::empty(), standard)
-    }
 }
 
 fn anything(random: &mut Random) -> Vec<Case> {

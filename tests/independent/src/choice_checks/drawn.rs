@@ -160,6 +160,15 @@ impl Drawn {
         self
     }
 
+    /// One of the wishes, which there must be, goes beyond the own table.
+    pub fn reaching_outside(mut self, random: &mut Random) -> Drawn {
+        let beyond: Vec<Code> = PERMITTED.difference(&self.own).copied().collect();
+        let chosen = random.below(self.wishes.len());
+        let more = with_parents([random.pick(&beyond)].into_iter());
+        self.wishes[chosen].parameters.extend(more);
+        self
+    }
+
     pub fn own_octets(&self) -> Vec<u8> {
         field(&self.own)
     }
@@ -186,6 +195,34 @@ impl Drawn {
 
     pub fn verdict(&self, far: &Far) -> Case {
         requests::verdict(&self.own_octets(), &self.run(), far)
+    }
+}
+
+/// The whole of a wish's parameters, or some of them.
+pub fn from_wish(random: &mut Random, wish: &Wanted) -> Parameters {
+    match random.bit() {
+        true => wish.parameters.clone(),
+        false => part_of(random, &wish.parameters),
+    }
+}
+
+/// Far lists that have much in common with the wishes, or nothing.
+pub fn any_list(random: &mut Random, drawn: &Drawn) -> Layout {
+    let far = match random.below(4) {
+        0 => return far_list_of_any_kind(random),
+        1 => some_parameters(random),
+        2 => part_of(random, &drawn.own),
+        _ => without_one(random, &drawn.own).0,
+    };
+    let noisy = with_noise(random, &far);
+    far_list(random, &noisy)
+}
+
+fn far_list_of_any_kind(random: &mut Random) -> Layout {
+    let standard = Layout::mixed(random).standard;
+    Layout {
+        kind: random.pick(&LISTS),
+        ..Layout::of_fields(random, Field::empty(), standard)
     }
 }
 

@@ -37,14 +37,6 @@ fn with_chosen(random: &mut Random) -> (Drawn, usize) {
     (drawn, chosen)
 }
 
-/// The whole of a wish's parameters, or some of them.
-fn from_wish(random: &mut Random, wish: &Wanted) -> Parameters {
-    match random.bit() {
-        true => wish.parameters.clone(),
-        false => part_of(random, &wish.parameters),
-    }
-}
-
 fn fits_ready(random: &mut Random) -> Vec<Case> {
     let mut cases = Vec::new();
     for _ in 0..1500 {

@@ -3,7 +3,6 @@
 use super::drawn::*;
 use super::requests::check;
 use crate::bench::{Case, Check};
-use crate::message::Code;
 use crate::message_checks::each_bit_inverted;
 use crate::random::Random;
 
@@ -52,12 +51,7 @@ fn all_equal(random: &mut Random) -> Vec<Case> {
 
 /// Some wishes of which one, at any place, goes beyond the own table.
 fn with_one_outside(random: &mut Random) -> Drawn {
-    let mut drawn = Drawn::some_wishes(random);
-    let beyond: Vec<Code> = PERMITTED.difference(&drawn.own).copied().collect();
-    let chosen = random.below(drawn.wishes.len());
-    let more = with_parents([random.pick(&beyond)].into_iter());
-    drawn.wishes[chosen].parameters.extend(more);
-    drawn
+    Drawn::some_wishes(random).reaching_outside(random)
 }
 
 fn one_outside(random: &mut Random) -> Vec<Case> {

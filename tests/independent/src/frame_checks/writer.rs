@@ -175,7 +175,7 @@ fn several_causes(random: &mut Random) -> Vec<Case> {
 }
 
 /// The bit count and the whole output of a writer's reply of success.
-fn run_written(reply: &[u8]) -> Result<(u32, &[u8]), String> {
+pub fn run_written(reply: &[u8]) -> Result<(u32, &[u8]), String> {
     let mut fields = Fields::of(reply);
     let parts = (fields.u8(), fields.u16(), fields.run(), fields.is_empty());
     match parts {
