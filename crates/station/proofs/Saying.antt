@@ -18,6 +18,7 @@ use Rattle.station.specs.declared.FarOffer.{FarOffer}
 use Rattle.station.specs.declared.Sends.{Sends}
 use Rattle.station.specs.declared.Stepped.{Stepped}
 use Rattle.station.specs.declared.Told.{Told}
+use Rattle.station.proofs.FarSide.{did-of-says}
 
 -- nothing was sent in a field, and nothing stored
 pub did-bare : (told : Told) (signal : Sends) (next : Phase) (out store : List ℕ) {r : Stepped}
@@ -27,7 +28,7 @@ did-bare told signal next out store e = record { reply = e; output = sym (put-ni
 
 -- what was said was done
 pub did-say : {o : Outcome} {out₀ out₁ : List ℕ} {r : Stepped} (store : List ℕ) → o .stored ≡ [] → Says o out₀ r out₁ → Did o out₀ store r out₁ store
-did-say store e s = record { reply = s .reply; output = s .output; store = sym (ap (λ (xs : List ℕ). put xs store) e ∙ put-nil store) }
+did-say store e s = did-of-says (sym (ap (λ (xs : List ℕ). put xs store) e ∙ put-nil store)) s
 
 -- a proposal stores what it is given to store
 pub proposal-stores : (c : Choice) (set : Settings) (far : FarOffer) (run stored : List ℕ) (time : ℕ) → proposes c set far run stored time .stored ≡ stored

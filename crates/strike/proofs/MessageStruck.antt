@@ -11,6 +11,7 @@ use lib.Seq.{sets, length-sets}
 use Rattle.octets.specs.Bits.{AreOctets}
 use Rattle.octets.specs.Lay.{put}
 use Rattle.octets.proofs.Laying.{length-put}
+use Rattle.tree.proofs.Filling.{sets-append}
 use Rattle.tree.specs.Codes.{fieldBase}
 use Rattle.message.specs.Kinds.{hasFields, typeOf}
 use Rattle.message.specs.Reader.{mostOctets, listRoom, standardAt, tailAt, refused, accepted, readMessage}
@@ -22,7 +23,7 @@ use Rattle.strike.specs.Striking.{struckForm, strikeMessage, struckTold,
 use Rattle.strike.specs.declared.Spot.{Spot}
 use Rattle.strike.specs.declared.Struck.{Struck}
 use Rattle.strike.specs.declared.Struck.the-variants.{Octets, SmallOutput}
-use Rattle.strike.proofs.Storing.{sets-then, sets-front}
+use Rattle.strike.proofs.Storing.{sets-front}
 use Rattle.strike.proofs.StruckForms.{struck-fields, struck-one, parts-fit-struck, struck-is-no-longer}
 
 -- ---- the struck form, put
@@ -133,7 +134,7 @@ module _ {l : List ℕ} {kind standard tail : ℕ} {out : List ℕ} {k : Keep} (
             let rest : drop tail l ≡ N = ap (λ (x : ℕ). drop x l) (h .tailIs) in
             let stored : out₃ ≡ sets (sets (sets (set out 0 first) 1 A) (1 + length A) R) (1 + length A + length R) N = last ∙ rw (second-put, length-two, rest) in
             let joined : sets (set out 0 first) 1 (A ++ (R ++ N)) ≡ sets (sets (sets (set out 0 first) 1 A) (1 + length A) R) (1 + length A + length R) N =
-            sets-then (set out 0 first) 1 A (R ++ N) ∙ sets-then (sets (set out 0 first) 1 A) (1 + length A) R N in (
+            sets-append (set out 0 first) 1 A (R ++ N) ∙ sets-append (sets (set out 0 first) 1 A) (1 + length A) R N in (
               rw (whole, length-append A (R ++ N), length-append R N) (omega (arith, length-two, ap length rest)),
               rw whole (stored ∙ sym joined ∙ sets-front out (first ∷ (A ++ (R ++ N))) (rw whole at form-room)),
             )
