@@ -15,7 +15,7 @@ use Rattle.octets.specs.Bits.{num, octBefore, bits, number}
 use Rattle.octets.proofs.Laws.{length-bits}
 use Rattle.octets.proofs.Digits.{number-append, number-lt, number-inj, number-octet}
 use Rattle.fcs.specs.Division.{plus, plusAll, generator, rest, fcs}
-use Rattle.fcs.specs.Register.{generatorNumber, divided, octetStep, register}
+use Rattle.fcs.specs.Register.{generatorNumber, divided, turns, octetStep, register}
 use Rattle.fcs.proofs.Polynomials.{plus-all-comm, plus-none, length-plus, length-rest, rest-parts, remainder, length-remainder, fcs-remainder, length-fcs}
 
 module _ (a : Bool) (x : ℕ) where
@@ -53,12 +53,7 @@ number-plus (a ∷ p) (b ∷ q) =
     )
     (omega arith)
 
--- k steps of the division in a register
-unfoldable pub turns : ℕ → ℕ → ℕ
-turns zero x = x
-turns (suc k) x = turns k (divided x)
-
--- they are k steps of the long division of the polynomial
+-- k steps of the division in a register are k steps of the long division of the polynomial
 rest-turns : (k : ℕ) (p : List Bool) → k ≤ length p → number (rest k p) ≡ turns k (number p)
 unfolding rest turns number divided
 rest-turns zero p h = refl
@@ -85,11 +80,6 @@ octet-turns r b hr hb =
     sym
     (rest-turns 8 (plusAll P Q) (omega (arith, length-plus P Q))
     ∙ ap (turns 8) (number-plus P Q ∙ rw (e, f) (xor-comm b r)))
-
--- one step done, one step less to do
-pub turn : (step x : ℕ) → step < 8 → turns (8 - (step + 1)) (divided x) ≡ turns (8 - step) x
-unfolding turns
-turn step x h = let e : 8 - step ≡ suc (8 - (step + 1)) = omega arith in rw e
 
 -- the two octets of the number of sixteen coefficients have these bits
 bits-two : (L : List Bool) → length L ≡ 16 → bits (number L % 256 ∷ number L / 256 ∷ []) ≡ L

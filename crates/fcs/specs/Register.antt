@@ -1,7 +1,7 @@
 -- The register of 7.2.7's typical implementation, an octet at a time. It is a number of 16 bits whose lowest bit is the highest
 -- coefficient. No public contract cites it: the laws show that it gives `fcs`.
 -- Assumes nothing.
-use Prim.Native.Nat.{ℕ, _/_, _%_}
+use Prim.Native.Nat.{ℕ, zero, suc, _/_, _%_}
 use mathlib.Core.Bool.{Bool, true, false}
 use mathlib.Core.List.{List, [], _∷_}
 use lib.Bits.{bitXor}
@@ -20,6 +20,11 @@ reduced false x = x
 -- one step of the division in a register: its highest coefficient goes out, and the generator is subtracted where that was one
 unfoldable pub divided : ℕ → ℕ
 divided x = reduced (odd x) (x / 2)
+
+-- k steps of it
+unfoldable pub turns : ℕ → ℕ → ℕ
+turns zero x = x
+turns (suc k) x = turns k (divided x)
 
 -- an octet into the register r: eight steps of the division of the octet's bits, added to the highest coefficients of r
 unfoldable pub octetStep : ℕ → ℕ → ℕ

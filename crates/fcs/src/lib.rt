@@ -3,33 +3,22 @@
 ghost use mathlib.Core.Path.{_≡_};
 ghost use Rattle.octets.specs.Bits.{bits, number};
 ghost use Rattle.fcs.specs.Division.{fcs};
-ghost use Rattle.fcs.specs.Register.{divided, octetStep};
+ghost use Rattle.fcs.specs.Register.{turns, octetStep};
 
-// The generator's coefficients but the highest, x^15 in the lowest bit.
-const GENERATOR: u16 = 0x8408;
-
-// One step of the division.
-fn divide(x: u16) -> u16
-    ensures { λ r. ⌜ r ≡ divided x ⌝ }
+// Eight steps of the division at once, of a register that has nothing but its eight lowest bits.
+fn eight_steps(low: u8) -> u16
+    ensures { λ r. ⌜ r ≡ turns 8 low ⌝ }
 {
-    if x % 2 == 1 {
-        (x / 2) ^ GENERATOR
-    } else {
-        x / 2
-    }
+    let x = (low ^ (low << 4)) as u16;
+    (x << 8) ^ (x << 3) ^ (x >> 4)
 }
 
 // An octet into the register.
 fn octet_into(register: u16, octet: u8) -> u16
     ensures { λ r. ⌜ r ≡ octetStep register octet ⌝ }
 {
-    let mut x = register ^ (octet as u16);
-    let mut step = 0u8;
-    while step < 8 {
-        x = divide(x);
-        step += 1;
-    }
-    x
+    let low = (register % 256) as u8 ^ octet;
+    (register / 256) ^ eight_steps(low)
 }
 
 // The FCS of a run of octets.

@@ -1,6 +1,9 @@
-// What bench/ measures from C: a step of the station, on slices alone. No part of the public side.
+// What bench/ measures from C: a step of the station, the message reader and writer, and striking, on numbers and slices alone. No
+// part of the public side.
+use message::MessageRead;
 use station::Event;
 use station::Stepped;
+use strike::Struck;
 use table::OnCrD;
 use table::OnCrE;
 use table::OnMrD;
@@ -8,6 +11,10 @@ use table::OnMrE;
 use table::Phase;
 use table::Settings;
 use table::State;
+use writer::MessageWritten;
+
+// What is told of a refusal stands above this.
+const REFUSED: u64 = 1000;
 
 // All that can be offered is offered.
 fn settings() -> Settings {
@@ -78,4 +85,50 @@ pub extern "C" fn kamvezhor_measure_mode(
         out,
         store,
     ))
+}
+
+// The message reader: how many codes there are, or the refusal.
+#[no_mangle]
+pub extern "C" fn kamvezhor_measure_read(message: &[u8], list: &mut [u32]) -> u64 {
+    match message::read_message(message, list) {
+        MessageRead::Read(m) => m.count as u64,
+        MessageRead::SmallList => REFUSED + 1,
+        MessageRead::BadSize => REFUSED + 2,
+        MessageRead::UnknownType => REFUSED + 3,
+        MessageRead::Malformed => REFUSED + 4,
+    }
+}
+
+// The message writer: how many octets there are, or the refusal.
+#[no_mangle]
+pub extern "C" fn kamvezhor_measure_write(
+    kind: u8,
+    revision: u8,
+    list: &[u32],
+    ns: &[u8],
+    out: &mut [u8],
+) -> u64 {
+    match writer::write_message(kind, revision, list, ns, out) {
+        MessageWritten::Octets(n) => n as u64,
+        MessageWritten::SmallOutput => REFUSED + 1,
+        MessageWritten::BadType => REFUSED + 3,
+        MessageWritten::BadCode => REFUSED + 5,
+        MessageWritten::NotAscending => REFUSED + 6,
+        MessageWritten::NoParent => REFUSED + 7,
+        MessageWritten::NotEmpty => REFUSED + 8,
+        MessageWritten::BadNs => REFUSED + 9,
+        MessageWritten::TooLong => REFUSED + 10,
+    }
+}
+
+// Striking: how many octets there are, or the refusal.
+#[no_mangle]
+pub extern "C" fn kamvezhor_measure_strike(message: &[u8], out: &mut [u8]) -> u64 {
+    match strike::strike_message(message, out) {
+        Struck::Octets(n) => n as u64,
+        Struck::SmallOutput => REFUSED + 1,
+        Struck::BadSize => REFUSED + 2,
+        Struck::UnknownType => REFUSED + 3,
+        Struck::Malformed => REFUSED + 4,
+    }
 }

@@ -3,9 +3,4 @@ pub mod FarSide
 pub mod Needing
 pub mod Gating
 pub mod Saying
-pub mod Following
-pub mod Proposing
-pub mod Accepting
-pub mod StepLines
 pub mod StepUnique
-pub mod StationBench

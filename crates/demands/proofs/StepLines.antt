@@ -28,17 +28,17 @@ use Rattle.table.specs.Phases.{kindOf, entryOf, ackOf}
 use Rattle.table.specs.Rows.{actOf}
 use Rattle.table.specs.Bound.{isOver}
 use Rattle.table.proofs.Lines.{each, within, spoilt-gets-nak1}
 use Rattle.station.specs.Sending.{sentNak}
 use Rattle.station.specs.Sorting.{known, sortOf, startHeard, signalHeard, isMessage}
 use Rattle.station.specs.Acting.{Outcome, quiet, sends, does, needsField}
 use Rattle.station.specs.Stepping.{longest, isMode, sorted, timed, checked, stepOf, Did}
 use Rattle.station.specs.declared.Event.{Event}
 use Rattle.station.specs.declared.Event.the-variants.{Begin, Tones, Field, InvalidFrame, Answer, Reset}
 use Rattle.station.specs.declared.Sends.the-variants.{NoSignal}
 use Rattle.station.specs.declared.Stepped.{Stepped}
 use Rattle.station.specs.declared.Told.the-variants.{Done, TimedOut}
 use Rattle.station.proofs.Needing.{bare-needs, hears-spoilt, start-bare, signal-bare}
-use Rattle.station.proofs.Following.{Given, steps, Sound, Due, refuses-6, follows, isActedOn, of-outcome}
+use Rattle.demands.proofs.Following.{Given, steps, Sound, Due, refuses-6, follows, isActedOn, of-outcome}
 
 -- ---- the field is looked at only for Field
 
@@ -68,7 +68,7 @@ module _ (p : Phase) (set : Settings) (own run m m′ : List ℕ) (time : ℕ) w
   act-blind GiveUp e = refl
   act-blind SendNak1 e = refl
 
-  heard-blind : (h : Heard) → isMessage h ≡ false → sorted (known h) p set own run m time ≡ sorted (known h) p set own run m′ time
+  pub heard-blind : (h : Heard) → isMessage h ≡ false → sorted (known h) p set own run m time ≡ sorted (known h) p set own run m′ time
   heard-blind h e = act-blind (actOf (kindOf p) set (ackOf p) h) (bare-needs (kindOf p) set (ackOf p) h e)
 
   sort-blind : (event : Event) → isField event ≡ false → sorted (sortOf event m) p set own run m time ≡ sorted (sortOf event m′) p set own run m′ time

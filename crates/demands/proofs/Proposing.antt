@@ -32,13 +32,13 @@ use Rattle.table.specs.declared.After.the-variants.{ThenMs, ThenClMs, ThenCl, T
 use Rattle.table.specs.declared.Settings.{Settings}
 use Rattle.table.specs.Phases.{kindOf}
 use Rattle.table.proofs.Lines.{isAmong}
 use Rattle.station.specs.Sending.{sentList, noOffer, modeOffer, sentMode}
 use Rattle.station.specs.Acting.{Outcome, quiet, farOffer, storedList, proposes, proposesBehind, judges}
 use Rattle.station.specs.Stepping.{toldNo}
 use Rattle.station.specs.declared.FarOffer.{FarOffer}
 use Rattle.station.specs.declared.Told.the-variants.{Done, TimedOut, NothingToPropose}
 use Rattle.station.proofs.Sendings.{sent-octets, part-octets}
-use Rattle.station.proofs.Following.{Given, steps, actOn, doing, listHeard, choiceBy, verdictOn, Sound, Passes, follows, isActedOn, kept-idle, Sent, of-step, of-outcome}
+use Rattle.demands.proofs.Following.{Given, steps, actOn, doing, listHeard, choiceBy, verdictOn, Sound, Passes, follows, isActedOn, kept-idle, Sent, of-step, of-outcome}
 
 -- ---- the acts that propose
 

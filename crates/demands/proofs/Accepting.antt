@@ -21,11 +21,11 @@ use Rattle.table.specs.declared.Act.the-variants.{NoRow, SendMrE, SendMrD, Coun
 use Rattle.table.specs.declared.After.the-variants.{ThenMs, ThenClMs, ThenCl, ThenHalf}
 use Rattle.table.specs.Phases.{kindOf, wishOf, ackOf}
 use Rattle.table.specs.Bound.{leadsTo}
 use Rattle.station.specs.Sending.{sentAck, sentNak}
 use Rattle.station.specs.Acting.{Outcome, quiet, sends, asksAck, storedMode, judges}
 use Rattle.station.specs.Stepping.{isMode}
 use Rattle.station.specs.declared.Told.the-variants.{Done}
-use Rattle.station.proofs.Following.{Given, steps, actOn, modeHeard, verdictOn, Passes, follows, of-step, finds, act-leads}
+use Rattle.demands.proofs.Following.{Given, steps, actOn, modeHeard, verdictOn, Passes, follows, of-step, finds, act-leads}
 
 -- ---- an MS is judged
 
