@@ -4,11 +4,14 @@
  * refused by the number of the true cause, and nothing has to be checked first. There is no state, nothing is allocated, and no
  * pointer is kept: every buffer is lent for the time of the call alone.
  *
- * A buffer is a pointer and the number of octets that it has. The pointer is never NULL, not even where the number is 0, and what is
- * lent to be written does not overlap anything else that is lent in the same call. A refusal writes nothing; success writes the
- * front of the buffer, as many octets as are told, and leaves the rest.
+ * A buffer is a pointer and the number of octets that it has. It needs no alignment. What the caller owes, and nothing else:
+ *   - the pointer is never NULL, not even where the number is 0;
+ *   - there are so many octets behind it;
+ *   - what is lent to be written does not overlap anything else that is lent in the same call.
+ * A refusal writes nothing; success writes the front of the buffer, as many octets as are told, and leaves the rest.
  *
- * Bits are packed with bit 1 of each octet, the lowest, first on the line. Link with libchip.a.
+ * Bits are packed with bit 1 of each octet, the lowest, first on the line. Link with libchip.a, which asks for memcpy and memset and
+ * for nothing else. No call takes more than 512 octets of stack on x86-64.
  */
 #ifndef KAMVEZHOR_H
 #define KAMVEZHOR_H
@@ -25,6 +28,11 @@ extern "C" {
 #define KAMVEZHOR_FRAME_ROOM 88       /* what the frame writer gives */
 #define KAMVEZHOR_LIST_ROOM 1792      /* what the message reader gives: 448 numbers of four octets */
 
+/* Limits: bits that the frame reader looks at, octets of information, numbers in a list. */
+#define KAMVEZHOR_MOST_BITS 704
+#define KAMVEZHOR_MOST_INFORMATION 64
+#define KAMVEZHOR_MOST_CODES 448
+
 /* Flags of a frame: how many may open and close it. */
 #define KAMVEZHOR_FEWEST_OPENING 2
 #define KAMVEZHOR_MOST_OPENING 5
@@ -35,7 +43,8 @@ extern "C" {
 enum kamvezhor_frame_refusal {
     KAMVEZHOR_FRAME_OK = 0,
     KAMVEZHOR_FRAME_NO_ROOM = 1,         /* bit count above 704 or above the run's bits, or output too small */
-    KAMVEZHOR_FRAME_BAD_FLAGS = 2,       /* flags missing, too few or too many, six ones inside, or bits left over */
+    KAMVEZHOR_FRAME_BAD_FLAGS = 2,       /* flags missing, too few or too many, six ones inside, five ones ending the content
+                                            without their zero, or bits left over */
     KAMVEZHOR_FRAME_SPLIT_OCTET = 3,     /* no whole number of octets */
     KAMVEZHOR_FRAME_TOO_SHORT = 4,       /* fewer than 3 octets with the FCS */
     KAMVEZHOR_FRAME_TOO_LONG = 5,        /* more than 66 octets with the FCS */
@@ -70,11 +79,15 @@ enum kamvezhor_type {
  * positions of SPar(1) and SPar(2), n that of NPar, 0 if there is none. */
 #define KAMVEZHOR_CODE(f, s, t, n) \
     (((((uint32_t)(f) * 512u + (uint32_t)(s)) * 512u + (uint32_t)(t)) * 512u) + (uint32_t)(n))
+#define KAMVEZHOR_CODE_F(code) ((uint32_t)(code) >> 27)
+#define KAMVEZHOR_CODE_S(code) ((uint32_t)(code) >> 18 & 511u)
+#define KAMVEZHOR_CODE_T(code) ((uint32_t)(code) >> 9 & 511u)
+#define KAMVEZHOR_CODE_N(code) ((uint32_t)(code) & 511u)
 
 /* Answer of the frame functions. On a refusal count is 0. */
 struct kamvezhor_frame {
     uint32_t refusal; /* enum kamvezhor_frame_refusal */
-    uint32_t count;   /* octets of information read, or bits of the frame written */
+    uint32_t count;   /* reader: octets of information; writer: bits of the frame, which are (count + 7) / 8 octets */
 };
 
 /* Answer of the message reader. On a refusal all else is 0. */

@@ -312,8 +312,8 @@ static const struct {
 /* A code as f.s.t.n. */
 static void print_code(uint32_t code)
 {
-    printf(" %u.%u.%u.%u", (unsigned)(code >> 27), (unsigned)(code >> 18 & 511), (unsigned)(code >> 9 & 511),
-           (unsigned)(code & 511));
+    printf(" %u.%u.%u.%u", (unsigned)KAMVEZHOR_CODE_F(code), (unsigned)KAMVEZHOR_CODE_S(code),
+           (unsigned)KAMVEZHOR_CODE_T(code), (unsigned)KAMVEZHOR_CODE_N(code));
 }
 
 static void print_message(const char *name, struct kamvezhor_message got, const uint8_t *list)

@@ -5,4 +5,8 @@ pub mod StepLines
 pub mod StationBench
 pub mod StruckSteps
 pub mod Revisions
+pub mod ListsReturn
+pub mod DemandOne
+pub mod DemandTwo
 pub mod DemandThree
+pub mod PositionsProved

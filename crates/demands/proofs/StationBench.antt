@@ -41,7 +41,7 @@ field = 0x80 ∷ 0x81 ∷ 0x02 ∷ 0xd0 ∷ []
 abbrev wish : List ℕ
 wish = 0x01 ∷ 0x04 ∷ field
 
-abbrev settings : Settings
+abbrev pub settings : Settings
 settings = record { eight = true; short = false; ack = true; mre = WithMs; crd = WithCl; cre = AsOnCrD; mrd = ByMs }
 
 -- the CL of the listing example, which offers V.8, and the MS that the wish gives
