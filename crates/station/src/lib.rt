@@ -3,10 +3,11 @@
 ghost use mathlib.Core.Path.{_≡_};
 ghost use mathlib.Core.Bool.{true};
 ghost use mathlib.Core.List.{[], _∷_};
-ghost use Prim.Native.Nat.{_≤_, _<_};
+ghost use Prim.Native.Nat.{_+_, _≤_, _<_};
 ghost use lib.ListN.{length};
 ghost use Rattle.octets.specs.Bits.{num};
 ghost use Rattle.octets.specs.Lay.{put};
+ghost use Rattle.tree.specs.Codes.{fieldBase};
 ghost use Rattle.tree.specs.Walk.{codesIn, isIn};
 ghost use Rattle.message.specs.Kinds.{hasFields, typeOf};
 ghost use Rattle.message.specs.Reader.{listRoom, standardAt, messageCodes, readMessage, accepted};
@@ -47,7 +48,7 @@ use table::is_over;
 use table::kind_of;
 use table::wish_of;
 use tree::Field;
-use tree::has_code;
+use tree::has_first;
 
 // The least octets of the output and of the store.
 const OUTPUT_ROOM: usize = 128;
@@ -57,12 +58,12 @@ const STORE_ROOM: usize = 64;
 // How long a phase other than Initial and Mode may last, in milliseconds.
 const LONGEST: u64 = 5000;
 
-// The codes of V.8, Short V.8 and Transmit ACK(1).
-const EIGHT: u32 = 134217729;
+// The positions of V.8, Short V.8 and Transmit ACK(1) in the identification field.
+const EIGHT: u32 = 1;
 
-const SHORT: u32 = 134217730;
+const SHORT: u32 = 2;
 
-const ASKS_ACK: u32 = 134217732;
+const ASKS_ACK: u32 = 4;
 
 // ACK(1) and NAK(1) of revision 2.
 const SENT_ACK: u8 = 0x24;
@@ -332,12 +333,12 @@ fn propose_behind(
     }
 }
 
-// Whether a message with fields has a code in its identification field.
-fn says(m: &[u8], code: u32) -> bool
-    requires { ⌜ (readMessage (now m) listRoom ≡ accepted) × (hasFields (typeOf (now m)) ≡ true) × (code < 268435456) ⌝ }
-    ensures { λ r. ⌜ r ≡ isIn code (messageCodes (now (m .entry))) ⌝ }
+// Whether a message with fields has a position of the first octet of its identification field.
+fn says(m: &[u8], q: u32) -> bool
+    requires { ⌜ (readMessage (now m) listRoom ≡ accepted) × (hasFields (typeOf (now m)) ≡ true) × (0 < q) × (q < 8) ⌝ }
+    ensures { λ r. ⌜ r ≡ isIn (fieldBase 1 + q) (messageCodes (now (m .entry))) ⌝ }
 {
-    has_code(m, 1, Field::Identification, code)
+    has_first(m, 1, Field::Identification, q)
 }
 
 // What the far side's list offers.

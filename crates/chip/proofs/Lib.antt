@@ -1,0 +1,5 @@
+pub mod Fours
+pub mod FrameTold
+pub mod MessageTold
+pub mod ChipUnique
+pub mod SameAnswers

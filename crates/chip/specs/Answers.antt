@@ -1,0 +1,59 @@
+-- What the three exported functions answer and leave: the same as the operations that they pass on, as plain numbers, and each number of
+-- the message reader's list as four octets, lowest first (document 01).
+-- Assumes nothing.
+use Prim.Native.Nat.{ℕ, _/_}
+use mathlib.Core.List.{List}
+use mathlib.Core.Path.{_≡_}
+use lib.ListN.{length}
+use Rattle.octets.specs.Lay.{put}
+use Rattle.frame.specs.Reader as reader
+use Rattle.frame.specs.Writer as writer
+use Rattle.tree.specs.Walk.{fours}
+use Rattle.message.specs.Reader.{Reading, refused, accepted, readMessage, messageCodes, readReply}
+use Rattle.message.specs.Reader as message
+use Rattle.chip.specs.declared.FrameAnswer.{FrameAnswer}
+use Rattle.chip.specs.declared.MessageAnswer.{MessageAnswer}
+
+-- document 01's number and value, as the firmware gets them
+abbrev pub frameAnswer : reader.Reply → FrameAnswer
+frameAnswer x = record { refusal = x .no; count = x .count }
+
+-- the frame reader
+pub record ReadsFrame (run : List ℕ) (count : ℕ) (out₀ : List ℕ) (r : FrameAnswer) (out₁ : List ℕ) : Type 0 where
+  pub reply : r ≡ frameAnswer (reader.readReply (reader.readFrame run count (length out₀)))
+  pub output : out₁ ≡ reader.readLeaves (reader.readFrame run count (length out₀)) out₀
+
+-- the frame writer
+pub record WritesFrame (info : List ℕ) (opening closing : ℕ) (out₀ : List ℕ) (r : FrameAnswer) (out₁ : List ℕ) : Type 0 where
+  pub reply : r ≡ frameAnswer (writer.writeReply (writer.writeFrame info opening closing (length out₀)))
+  pub output : out₁ ≡ writer.writeLeaves (writer.writeFrame info opening closing (length out₀)) out₀
+
+-- document 01's number and values, as the firmware gets them
+abbrev pub messageAnswer : message.Reply → MessageAnswer
+messageAnswer x =
+    record {
+      refusal = x .no;
+      kind = x .kind;
+      revision = x .revision;
+      codes = x .count;
+      «ns_at» = x .nsAt;
+      «ns_length» = x .nsLength;
+    }
+
+-- the smallest list that is taken, in octets: four for each of 448 numbers
+abbrev pub listOctets : ℕ
+listOctets = 1792
+
+-- how many numbers a list of octets has room for
+abbrev pub roomOf : List ℕ → ℕ
+roomOf list = length list / 4
+
+-- the list: a refusal writes nothing, success the codes, four octets to each, and nothing behind them
+abbrev pub octetsLeft : Reading → List ℕ → List ℕ → List ℕ
+octetsLeft (refused k) l list = list
+octetsLeft accepted l list = put (fours (messageCodes l)) list
+
+-- the message reader
+pub record ReadsMessage (l list₀ : List ℕ) (r : MessageAnswer) (list₁ : List ℕ) : Type 0 where
+  pub reply : r ≡ messageAnswer (readReply (readMessage l (roomOf list₀)) l)
+  pub list : list₁ ≡ octetsLeft (readMessage l (roomOf list₀)) l list₀

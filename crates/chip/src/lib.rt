@@ -1,0 +1,171 @@
+// What the chip's firmware calls from C (document 01: "it calls the frame reader, the frame writer and the message reader"): three
+// functions on numbers and slices, each with the promise of the operation that it passes on.
+ghost use mathlib.Core.Path.{_≡_};
+ghost use Prim.Native.Nat.{_-_, _<_, _≤_};
+ghost use lib.ListN.{length};
+ghost use Rattle.octets.specs.Places.{pick};
+ghost use Rattle.message.specs.Check.{checkTold, checkMessage};
+ghost use Rattle.message.specs.Nonstandard.{nsAnnounced};
+ghost use Rattle.message.specs.Reader.{mostOctets};
+ghost use Rattle.chip.specs.Answers.{ReadsFrame, WritesFrame, ReadsMessage, listOctets};
+use frame::FrameRead;
+use frame::FrameWritten;
+use frame::read_frame;
+use frame::write_frame;
+use message::MessageCheck;
+use message::Parts;
+use message::check_message;
+use tree::Field;
+use tree::fill_octets;
+
+// The octets of the smallest list that is taken: 448 numbers of four octets.
+const LIST_OCTETS: usize = 1792;
+
+// What a frame function answers: document 01's number, 0 for success, and the number of octets read or of bits written.
+#[repr(C)]
+pub struct FrameAnswer {
+    pub refusal: u32,
+    pub count: u32,
+}
+
+// What the message reader answers: document 01's number, 0 for success, and then the type, the revision, the number of codes, and
+// where NS lies.
+#[repr(C)]
+pub struct MessageAnswer {
+    pub refusal: u32,
+    pub kind: u32,
+    pub revision: u32,
+    pub codes: u32,
+    pub ns_at: u32,
+    pub ns_length: u32,
+}
+
+// The frame reader: the information of the frame in the first bits of the run.
+#[no_mangle]
+pub extern "C" fn kamvezhor_read_frame(run: &[u8], bits: usize, out: &mut [u8]) -> FrameAnswer
+    ensures { λ r. ⌜ ReadsFrame (now (run .entry)) bits (now (out .entry)) r (now (out .exit)) ⌝ }
+{
+    match read_frame(run, bits, out) {
+        FrameRead::Octets(n) => FrameAnswer {
+            refusal: 0,
+            count: n as u32,
+        },
+        FrameRead::NoRoom => frame_refusal(1),
+        FrameRead::BadFlags => frame_refusal(2),
+        FrameRead::SplitOctet => frame_refusal(3),
+        FrameRead::TooShort => frame_refusal(4),
+        FrameRead::TooLong => frame_refusal(5),
+        FrameRead::WrongCheck => frame_refusal(6),
+    }
+}
+
+// A refusal, which gives nothing.
+fn frame_refusal(no: u32) -> FrameAnswer
+    ensures { λ r. ⌜ r ≡ record { refusal = no; count = 0 } ⌝ }
+{
+    FrameAnswer {
+        refusal: no,
+        count: 0,
+    }
+}
+
+// The frame writer: a frame of the information with so many opening and closing flags.
+#[no_mangle]
+pub extern "C" fn kamvezhor_write_frame(
+    information: &[u8],
+    opening: usize,
+    closing: usize,
+    out: &mut [u8],
+) -> FrameAnswer
+    ensures { λ r. ⌜ WritesFrame (now (information .entry)) opening closing (now (out .entry)) r (now (out .exit)) ⌝ }
+{
+    match write_frame(information, opening, closing, out) {
+        FrameWritten::Bits(n) => FrameAnswer {
+            refusal: 0,
+            count: n as u32,
+        },
+        FrameWritten::SmallOutput => frame_refusal(1),
+        FrameWritten::BadLength => frame_refusal(7),
+        FrameWritten::BadFlagCount => frame_refusal(8),
+    }
+}
+
+// A refusal, which tells nothing of the message.
+fn message_refusal(no: u32) -> MessageAnswer
+    ensures { λ r. ⌜ r ≡ record { refusal = no; kind = 0; revision = 0; codes = 0; «ns_at» = 0; «ns_length» = 0 } ⌝ }
+{
+    MessageAnswer {
+        refusal: no,
+        kind: 0,
+        revision: 0,
+        codes: 0,
+        ns_at: 0,
+        ns_length: 0,
+    }
+}
+
+// Where NS lies in a message with fields.
+pub struct Place {
+    pub at: u32,
+    pub length: u32,
+}
+
+// NS of a message with fields begins at a place, if it is announced.
+fn ns_place(message: &[u8], tail: usize) -> Place
+    requires { ⌜ (1 < length (now message)) × (tail ≤ length (now message)) × (length (now message) ≤ mostOctets) ⌝ }
+    ensures { λ r. ⌜ (r .at ≡ pick (nsAnnounced (now (message .entry))) tail 0) × (r .length ≡ pick (nsAnnounced (now (message .entry))) (length (now (message .entry)) - tail) 0) ⌝ }
+{
+    if (message[1] / 64) % 2 == 1 {
+        return Place {
+            at: tail as u32,
+            length: (message.len() - tail) as u32,
+        };
+    }
+    Place { at: 0, length: 0 }
+}
+
+// Reads a well-formed message, whose parts are known: its codes into the list.
+fn read_parts(message: &[u8], parts: Parts, list: &mut [u8]) -> MessageAnswer
+    requires { ⌜ (checkTold (MessageCheck.Parted parts) ≡ checkMessage (now message)) × (listOctets ≤ length (now list)) ⌝ }
+    ensures { λ r. ⌜ ReadsMessage (now (message .entry)) (now (list .entry)) r (now (list .exit)) ⌝ }
+{
+    let kind = parts.kind as u32;
+    let revision = (message[0] / 16) as u32;
+    if 4 <= kind {
+        return MessageAnswer {
+            refusal: 0,
+            kind,
+            revision,
+            codes: 0,
+            ns_at: 0,
+            ns_length: 0,
+        };
+    }
+    let n = fill_octets(message, 1, Field::Identification, list);
+    let k = fill_octets(message, parts.standard, Field::Standard, &mut list[4 * n..]);
+    let ns = ns_place(message, parts.tail);
+    MessageAnswer {
+        refusal: 0,
+        kind,
+        revision,
+        codes: (n + k) as u32,
+        ns_at: ns.at,
+        ns_length: ns.length,
+    }
+}
+
+// The message reader: it fills the front of the list with the message's codes, in ascending order, four octets to each, lowest first.
+#[no_mangle]
+pub extern "C" fn kamvezhor_read_message(message: &[u8], list: &mut [u8]) -> MessageAnswer
+    ensures { λ r. ⌜ ReadsMessage (now (message .entry)) (now (list .entry)) r (now (list .exit)) ⌝ }
+{
+    if list.len() < LIST_OCTETS {
+        return message_refusal(1);
+    }
+    match check_message(message) {
+        MessageCheck::Parted(parts) => read_parts(message, parts, list),
+        MessageCheck::BadSize => message_refusal(2),
+        MessageCheck::UnknownType => message_refusal(3),
+        MessageCheck::Malformed => message_refusal(4),
+    }
+}
