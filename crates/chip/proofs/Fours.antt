@@ -5,7 +5,7 @@ use mathlib.Core.Path.{_≡_, refl, ap}
 use mathlib.Core.List.{List, [], _∷_, _++_}
 use native.Mathlib.Omega.{arith}
 use lib.ListN.{length}
-use Rattle.tree.specs.Walk.{fours}
+use Rattle.tree.specs.Fields.{fours}
 
 -- four octets to each number
 pub length-fours : (l : List ℕ) → length (fours l) ≡ 4 * length l

@@ -10,7 +10,7 @@ use Rattle.frame.specs.Reader as reader
 use Rattle.frame.specs.Writer as writer
 use Rattle.frame.specs.declared.FrameRead.{FrameRead}
 use Rattle.frame.specs.declared.FrameWritten.{FrameWritten}
-use Rattle.tree.specs.Walk.{fours}
+use Rattle.tree.specs.Fields.{fours}
 use Rattle.message.specs.Reader.{listRoom, messageCodes, Reading, refused, accepted, readMessage, readTold, readReply, readLeaves, Reads}
 use Rattle.message.specs.declared.MessageRead.{MessageRead}
 use Rattle.message.proofs.Reading.{room-enough}

@@ -8,7 +8,7 @@ use lib.ListN.{length}
 use Rattle.octets.specs.Lay.{put}
 use Rattle.frame.specs.Reader as reader
 use Rattle.frame.specs.Writer as writer
-use Rattle.tree.specs.Walk.{fours}
+use Rattle.tree.specs.Fields.{fours}
 use Rattle.message.specs.Reader.{Reading, refused, accepted, readMessage, messageCodes, readReply}
 use Rattle.message.specs.Reader as message
 use Rattle.chip.specs.declared.FrameAnswer.{FrameAnswer}

@@ -8,6 +8,7 @@ ghost use Rattle.message.specs.Check.{checkTold, checkMessage};
 ghost use Rattle.message.specs.Nonstandard.{nsAnnounced};
 ghost use Rattle.message.specs.Reader.{mostOctets};
 ghost use Rattle.chip.specs.Answers.{ReadsFrame, WritesFrame, ReadsMessage, listOctets};
+use fill::fill_octets;
 use frame::FrameRead;
 use frame::FrameWritten;
 use frame::read_frame;
@@ -16,7 +17,6 @@ use message::MessageCheck;
 use message::Parts;
 use message::check_message;
 use tree::Field;
-use tree::fill_octets;
 
 // The octets of the smallest list that is taken: 448 numbers of four octets.
 const LIST_OCTETS: usize = 1792;

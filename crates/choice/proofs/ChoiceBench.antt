@@ -6,7 +6,7 @@ use mathlib.Core.List.{List, [], _∷_, _++_}
 use Rattle.tree.specs.Block.{setBits, blockNumbers, blockEnd}
 use Rattle.tree.specs.Codes.{subCodes, subsBehind, groupCodes, groupBehind, parCodes, parsBehind, restCodes, restBehind, fieldCodes, fieldBehind}
 use Rattle.tree.specs.Form.{blockForm, subsForm, groupForm, parsForm, restForm, fieldForm}
-use Rattle.tree.specs.Walk.{codesIn, isIn, allIn, hasSpar}
+use Rattle.tree.specs.Fields.{codesIn, isIn, allIn, hasSpar}
 use Rattle.tree.specs.declared.Field.the-variants.{Standard}
 use Rattle.writer.specs.Minimal.{fullAtEnd, tight, subsMinimal, groupMinimal, parsMinimal, fieldMinimal}
 use Rattle.names.specs.Named.{rowsUnder, rowAt, rowOf}

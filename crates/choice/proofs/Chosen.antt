@@ -8,7 +8,7 @@ use mathlib.Core.Path.{_≡_, refl, sym, ap, _∙_}
 use native.Mathlib.Omega.{arith}
 use lib.ListN.{length, take, drop, length-append}
 use Rattle.octets.specs.Places.{pick}
-use Rattle.tree.specs.Walk.{isIn, allIn}
+use Rattle.tree.specs.Fields.{isIn, allIn}
 use Rattle.tree.proofs.Within.{allIn-same, isIn-allIn, allIn-isIn}
 use Rattle.names.specs.Masks.{only}
 use Rattle.names.specs.Named.{namedCode}

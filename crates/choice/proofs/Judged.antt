@@ -7,7 +7,7 @@ use mathlib.Core.Logic.{⊎-elim}
 use mathlib.Core.Path.{_≡_, refl, sym, ap, _∙_}
 use native.Mathlib.Omega.{arith}
 use Rattle.octets.specs.Places.{pick}
-use Rattle.tree.specs.Walk.{isIn, allIn, hasSpar}
+use Rattle.tree.specs.Fields.{isIn, allIn, hasSpar}
 use Rattle.tree.proofs.Within.{isIn-allIn, allIn-isIn}
 use Rattle.tree.proofs.Modes.{spar-in, spar-some}
 use Rattle.writer.specs.Minimal.{both}

@@ -10,7 +10,7 @@ use lib.Dec.{ltb, leb, eqb}
 use lib.ListN.{length, getD, take, drop, length-drop, drop-of-length-le}
 use lib.Seq.{drop-cons, drop-drop, length-take-le}
 use Rattle.octets.specs.Places.{pick}
-use Rattle.tree.specs.Walk.{allIn, hasSpar}
+use Rattle.tree.specs.Fields.{allIn, hasSpar}
 use Rattle.writer.specs.Minimal.{both}
 use Rattle.choice.specs.Wishes.{Wish, mostWishes, wishesIn, wishesOf, wishCodes, goodWish, goodRecords, goodWishes}
 use Rattle.choice.specs.Choosing.{Far, suits, firstSuiting}

@@ -14,7 +14,7 @@ use Rattle.octets.specs.Bits.{num}
 use Rattle.octets.specs.Places.{pick}
 use Rattle.tree.specs.Codes.{fieldBase, fieldCodes, fieldBehind}
 use Rattle.tree.specs.Form.{isFine, fieldForm}
-use Rattle.tree.specs.Walk.{isIn, allIn, hasSpar}
+use Rattle.tree.specs.Fields.{isIn, allIn, hasSpar}
 use Rattle.tree.specs.declared.Field.the-variants.{Standard}
 use Rattle.tree.proofs.Within.{in-cases}
 use Rattle.message.proofs.Room.{codes-in}

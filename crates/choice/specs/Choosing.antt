@@ -5,7 +5,7 @@ use mathlib.Core.Bool.{Bool, true, false}
 use mathlib.Core.List.{List, [], _∷_}
 use lib.ListN.{length}
 use Rattle.octets.specs.Places.{pick}
-use Rattle.tree.specs.Walk.{allIn, codesIn}
+use Rattle.tree.specs.Fields.{allIn, codesIn}
 use Rattle.tree.specs.declared.Field.the-variants.{Standard}
 use Rattle.writer.specs.Minimal.{both}
 use Rattle.choice.specs.Wishes.{Wish, wishesOf, standardCodes, wishCodes}

@@ -5,7 +5,7 @@ use Prim.Native.Nat.{ℕ}
 use mathlib.Core.Bool.{Bool, true, false}
 use mathlib.Core.List.{List, [], _∷_}
 use Rattle.octets.specs.Places.{pick}
-use Rattle.tree.specs.Walk.{allIn, hasSpar}
+use Rattle.tree.specs.Fields.{allIn, hasSpar}
 use Rattle.writer.specs.Minimal.{both}
 use Rattle.choice.specs.Wishes.{Wish, wishCodes}
 use Rattle.choice.specs.declared.Verdict.{Verdict}

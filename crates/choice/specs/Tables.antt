@@ -4,7 +4,7 @@ use Prim.Native.Nat.{ℕ}
 use mathlib.Core.Bool.{Bool, true, false, not}
 use mathlib.Core.List.{List, [], _∷_}
 use Rattle.octets.specs.Places.{pick}
-use Rattle.tree.specs.Walk.{allIn}
+use Rattle.tree.specs.Fields.{allIn}
 use Rattle.writer.specs.Minimal.{both}
 use Rattle.strike.specs.Good.{goodField}
 use Rattle.choice.specs.Wishes.{Wish, wishesOf, standardCodes, wishCodes, goodWishes}

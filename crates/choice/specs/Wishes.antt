@@ -7,7 +7,7 @@ use mathlib.Core.List.{List, [], _∷_}
 use lib.Dec.{leb, eqb}
 use lib.ListN.{length, take, drop}
 use Rattle.octets.specs.Places.{pick}
-use Rattle.tree.specs.Walk.{codesIn, hasSpar}
+use Rattle.tree.specs.Fields.{codesIn, hasSpar}
 use Rattle.tree.specs.declared.Field.the-variants.{Standard}
 use Rattle.writer.specs.Minimal.{both}
 use Rattle.strike.specs.Good.{goodField}

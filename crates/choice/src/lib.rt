@@ -6,7 +6,7 @@ ghost use mathlib.Core.List.{[]};
 ghost use Prim.Native.Nat.{_≤_, _<_};
 ghost use lib.ListN.{length};
 ghost use Rattle.octets.specs.Places.{pick};
-ghost use Rattle.tree.specs.Walk.{allIn, codesIn, hasSpar};
+ghost use Rattle.tree.specs.Fields.{allIn, codesIn, hasSpar};
 ghost use Rattle.writer.specs.Minimal.{both};
 ghost use Rattle.choice.specs.Wishes.{wishesOf, goodWish, goodWishes, standardCodes};
 ghost use Rattle.choice.specs.Tables.{allInside, tablesNo, tablesTold};
@@ -16,7 +16,7 @@ ghost use Rattle.choice.specs.Inner.{Enters, EndsGood, farTold, wish, fi
 use strike::is_good;
 use tree::Field;
 use tree::has_spar;
-use tree::lies_within;
+use within::lies_within;
 
 // The most wishes.
 const MOST_WISHES: usize = 16;

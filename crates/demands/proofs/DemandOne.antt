@@ -20,7 +20,7 @@ use Rattle.frame.specs.declared.FrameRead.{FrameRead}
 use Rattle.frame.specs.declared.FrameWritten.{FrameWritten}
 use Rattle.frame.proofs.ReaderUnique as frameReading
 use Rattle.frame.proofs.WriterUnique as frameWriting
-use Rattle.tree.specs.Walk.{codesIn, fours}
+use Rattle.tree.specs.Fields.{codesIn, fours}
 use Rattle.tree.specs.declared.Field.{Field}
 use Rattle.message.specs.Check.{checkTold, checkMessage}
 use Rattle.message.specs.Reader.{nsTold}

@@ -11,7 +11,7 @@ use lib.ListN.{length, getD, take, drop}
 use Rattle.octets.specs.Bits.{AreOctets}
 use Rattle.octets.specs.Lay.{put}
 use Rattle.tree.specs.Codes.{fieldBase, fieldCodes}
-use Rattle.tree.specs.Walk.{isIn}
+use Rattle.tree.specs.Fields.{isIn}
 use Rattle.message.specs.Kinds.{hasFields, typeOf, revisionOf}
 use Rattle.message.specs.Reader.{listRoom, standardAt, messageCodes, nsPlace, nsSize, accepted, readMessage}
 use Rattle.message.proofs.Revision.{same-reading, same-codes, same-ns}

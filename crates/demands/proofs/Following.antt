@@ -12,7 +12,7 @@ use lib.Dec.{ltb}
 use lib.ListN.{length, take, drop}
 use Rattle.octets.specs.Bits.{num}
 use Rattle.octets.specs.Places.{pick}
-use Rattle.tree.specs.Walk.{codesIn}
+use Rattle.tree.specs.Fields.{codesIn}
 use Rattle.tree.specs.declared.Field.the-variants.{Standard}
 use Rattle.message.specs.Kinds.{revisionOf}
 use Rattle.message.specs.Reader.{standardAt}

@@ -8,7 +8,7 @@ use mathlib.Core.Path.{_≡_, refl, sym, ap, _∙_}
 use native.Mathlib.Omega.{arith}
 use lib.ListN.{take, drop}
 use Rattle.octets.specs.Bits.{num, AreOctets}
-use Rattle.tree.specs.Walk.{allIn}
+use Rattle.tree.specs.Fields.{allIn}
 use Rattle.writer.specs.Minimal.{both}
 use Rattle.strike.specs.Good.{goodField}
 use Rattle.choice.specs.Wishes.{Wish, wishesOf, standardCodes, wishCodes}

@@ -7,7 +7,7 @@ use mathlib.Core.Path.{_≡_, refl}
 use Rattle.tree.specs.Block.{setBits, blockNumbers, blockEnd}
 use Rattle.tree.specs.Codes.{subCodes, subsBehind, groupCodes, groupBehind, parCodes, parsBehind, restCodes, restBehind, fieldCodes, fieldBehind}
 use Rattle.tree.specs.Form.{blockForm, subsForm, groupForm, parsForm, restForm, fieldForm}
-use Rattle.tree.specs.Walk.{codesIn, isIn, allIn, hasSpar}
+use Rattle.tree.specs.Fields.{codesIn, isIn, allIn, hasSpar}
 use Rattle.message.specs.Nonstandard.{nsForm, tailForm}
 use Rattle.message.specs.Reader.{messageForm, messageCodes, readMessage}
 use Rattle.writer.specs.Minimal.{fullAtEnd, tight, subsMinimal, groupMinimal, parsMinimal, fieldMinimal}

@@ -13,7 +13,7 @@ use Rattle.octets.specs.Bits.{AreOctets}
 use Rattle.octets.specs.Lay.{put}
 use Rattle.octets.specs.Places.{pick}
 use Rattle.tree.specs.Codes.{codeOf, fieldBase, fieldCodes}
-use Rattle.tree.specs.Walk.{isIn, codesIn}
+use Rattle.tree.specs.Fields.{isIn, codesIn}
 use Rattle.tree.specs.declared.Field.the-variants.{Identification, Standard}
 use Rattle.tree.specs.declared.Form.the-variants.{Fine, Left}
 use Rattle.message.specs.Kinds.{hasFields, typeOf}

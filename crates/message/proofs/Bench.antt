@@ -6,7 +6,7 @@ use mathlib.Core.List.{List, [], _∷_}
 use Rattle.tree.specs.Block.{setBits, blockNumbers, blockEnd}
 use Rattle.tree.specs.Codes.{codeOf, subCodes, subsBehind, groupCodes, groupBehind, parCodes, parsBehind, restCodes, restBehind, fieldCodes, fieldBehind}
 use Rattle.tree.specs.Form.{blockForm, subsForm, groupForm, parsForm, restForm, fieldForm}
-use Rattle.tree.specs.Walk.{isIn}
+use Rattle.tree.specs.Fields.{isIn}
 use Rattle.message.specs.Kinds.{typeOf, revisionOf}
 use Rattle.message.specs.Nonstandard.{nsForm, tailForm}
 use Rattle.message.specs.Reader.{messageForm, messageCodes, nsPlace, nsSize, Reading, refused, accepted, readMessage}

@@ -12,7 +12,7 @@ use Rattle.octets.specs.Lay.{over}
 use Rattle.octets.specs.Places.{pick}
 use Rattle.octets.proofs.Laying.{put-nil}
 use Rattle.tree.specs.Codes.{fieldBase, fieldCodes}
-use Rattle.tree.specs.Walk.{codesIn}
+use Rattle.tree.specs.Fields.{codesIn}
 use Rattle.tree.specs.declared.Field.the-variants.{Identification, Standard}
 use Rattle.message.specs.Check.{checkTold, checkMessage}
 use Rattle.message.specs.Kinds.{hasFields, typeOf, revisionOf}

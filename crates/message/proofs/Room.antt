@@ -11,7 +11,7 @@ use lib.Seq.{take-all}
 use Rattle.octets.specs.Lay.{put, over}
 use Rattle.octets.proofs.Laying.{over-fits}
 use Rattle.tree.specs.Codes.{fieldCodes}
-use Rattle.tree.specs.Walk.{baseOf, codesIn}
+use Rattle.tree.specs.Fields.{baseOf, codesIn}
 use Rattle.tree.specs.declared.Field.{Field}
 use Rattle.tree.proofs.Few.{field-few}
 use Rattle.message.specs.Reader.{mostOctets, listRoom, standardAt}

@@ -5,7 +5,7 @@ use mathlib.Core.Bool.{Bool}
 use mathlib.Core.List.{List, [], _∷_}
 use lib.Dec.{ltb}
 use lib.ListN.{getD}
-use Rattle.tree.specs.Walk.{isIn}
+use Rattle.tree.specs.Fields.{isIn}
 
 -- MS 1, CL 2, CLR 3, ACK(1) 4, ACK(2) 5, NAK(1) to NAK(4) 8 to 11
 abbrev pub known : ℕ → Bool

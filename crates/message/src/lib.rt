@@ -8,10 +8,10 @@ ghost use Rattle.message.specs.Kinds.{known, hasFields, typeOf};
 ghost use Rattle.message.specs.Nonstandard.{nsAnnounced, nsForm, tailForm};
 ghost use Rattle.message.specs.Reader.{mostOctets, listRoom, Reads, nsTold, spanTold, Shapes};
 ghost use Rattle.message.specs.Check.{checkTold, checkMessage};
+use fill::fill_codes;
 use tree::Field;
 use tree::Form;
 use tree::field_form;
-use tree::fill_codes;
 use tree::is_fine;
 
 const MOST_OCTETS: usize = 64;

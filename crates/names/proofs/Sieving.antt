@@ -10,7 +10,7 @@ use lib.Dec.{eqb}
 use lib.ListN.{length}
 use Rattle.octets.specs.Bits.{num}
 use Rattle.octets.specs.Places.{pick}
-use Rattle.tree.specs.Walk.{isIn}
+use Rattle.tree.specs.Fields.{isIn}
 use Rattle.names.specs.Masks.{only}
 
 -- what passes of two lists, one after the other

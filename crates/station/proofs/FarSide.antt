@@ -13,7 +13,7 @@ use Rattle.octets.specs.Lay.{put}
 use Rattle.octets.proofs.Laying.{put-nil}
 use Rattle.tree.specs.Codes.{fieldBase, fieldCodes}
 use Rattle.tree.specs.Form.{fieldForm}
-use Rattle.tree.specs.Walk.{isIn, codesIn}
+use Rattle.tree.specs.Fields.{isIn, codesIn}
 use Rattle.tree.specs.declared.Field.the-variants.{Identification, Standard}
 use Rattle.tree.specs.declared.Form.the-variants.{Fine}
 use Rattle.tree.proofs.Forms.{form-in}

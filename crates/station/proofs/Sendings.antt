@@ -14,7 +14,7 @@ use Rattle.octets.specs.Lay.{put, over}
 use Rattle.octets.proofs.Laying.{over-fits, length-put, put-nil}
 use Rattle.tree.specs.Codes.{codeOf, fieldBase, fieldCodes}
 use Rattle.tree.specs.Order.{Ascending}
-use Rattle.tree.specs.Walk.{codesIn}
+use Rattle.tree.specs.Fields.{codesIn}
 use Rattle.tree.specs.declared.Field.the-variants.{Standard}
 use Rattle.tree.proofs.Ascending.{field-ascending}
 use Rattle.tree.proofs.Forms.{form-in}

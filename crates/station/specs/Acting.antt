@@ -7,7 +7,7 @@ use mathlib.Core.Path.{_≡_}
 use lib.ListN.{length, take, drop}
 use Rattle.octets.specs.Places.{pick}
 use Rattle.tree.specs.Codes.{codeOf}
-use Rattle.tree.specs.Walk.{isIn, codesIn}
+use Rattle.tree.specs.Fields.{isIn, codesIn}
 use Rattle.tree.specs.declared.Field.the-variants.{Standard}
 use Rattle.message.specs.Kinds.{hasFields, typeOf}
 use Rattle.message.specs.Reader.{listRoom, standardAt, messageCodes, readMessage, accepted}

@@ -8,7 +8,7 @@ ghost use lib.ListN.{length};
 ghost use Rattle.octets.specs.Bits.{num};
 ghost use Rattle.octets.specs.Lay.{put};
 ghost use Rattle.tree.specs.Codes.{fieldBase};
-ghost use Rattle.tree.specs.Walk.{codesIn, isIn};
+ghost use Rattle.tree.specs.Fields.{codesIn, isIn};
 ghost use Rattle.message.specs.Kinds.{hasFields, typeOf};
 ghost use Rattle.message.specs.Reader.{listRoom, standardAt, messageCodes, readMessage, accepted};
 ghost use Rattle.strike.specs.Good.{goodField};
@@ -48,7 +48,7 @@ use table::is_over;
 use table::kind_of;
 use table::wish_of;
 use tree::Field;
-use tree::has_first;
+use within::has_first;
 
 // The least octets of the output and of the store.
 const OUTPUT_ROOM: usize = 128;

@@ -11,7 +11,7 @@ use Rattle.octets.specs.Places.{pick}
 use Rattle.tree.specs.Block.{numbers, behind, ended}
 use Rattle.tree.specs.Codes.{fieldBase, groupBehind, fieldCodes, fieldBehind}
 use Rattle.tree.specs.Form.{fieldForm}
-use Rattle.tree.specs.Walk.{baseOf}
+use Rattle.tree.specs.Fields.{baseOf}
 use Rattle.tree.specs.declared.Field.{Field}
 use Rattle.tree.specs.declared.Field.the-variants.{Identification, Standard}
 use Rattle.tree.specs.declared.Form.the-variants.{Fine}

@@ -15,7 +15,7 @@ use lib.Seq.{getD-drop}
 use Rattle.octets.specs.Bits.{num}
 use Rattle.octets.specs.Places.{pick}
 use Rattle.tree.specs.Block.{setBits, blockNumbers, blockEnd, behind}
-use Rattle.tree.proofs.Walking.{bits-none}
+use Rattle.tree.proofs.Lowest.{bits-none}
 use Rattle.writer.specs.Minimal.{fullAtEnd, tight}
 use Rattle.writer.specs.Writer.{isEmpty}
 use Rattle.writer.specs.Written.{block}

@@ -12,7 +12,7 @@ use Rattle.octets.specs.Bits.{AreOctets}
 use Rattle.octets.specs.Places.{pick}
 use Rattle.octets.proofs.Laying.{put-nil}
 use Rattle.tree.specs.Form.{isFine, fieldForm}
-use Rattle.tree.specs.Walk.{baseOf, formIn, reachOf}
+use Rattle.tree.specs.Fields.{baseOf, formIn, reachOf}
 use Rattle.tree.specs.declared.Field.{Field}
 use Rattle.tree.specs.declared.Form.{Form}
 use Rattle.tree.specs.declared.Form.the-variants.{Fine, Left}

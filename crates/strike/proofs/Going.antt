@@ -14,7 +14,7 @@ use lib.Seq.{sets, length-sets, drop-cons}
 use Rattle.octets.specs.Places.{pick}
 use Rattle.tree.specs.Block.{setBits, blockNumbers, numbers, behind, ended}
 use Rattle.tree.specs.Codes.{subsBehind, groupBehind, parsBehind, restBehind, fieldBehind}
-use Rattle.tree.specs.Walk.{baseOf}
+use Rattle.tree.specs.Fields.{baseOf}
 use Rattle.tree.specs.declared.Field.{Field}
 use Rattle.tree.specs.declared.Field.the-variants.{Identification, Standard}
 use Rattle.tree.proofs.Few.{few, group-few}

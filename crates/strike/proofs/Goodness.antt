@@ -14,7 +14,7 @@ use Rattle.octets.specs.Lay.{put}
 use Rattle.octets.specs.Places.{pick}
 use Rattle.tree.specs.Codes.{fieldBase, fieldCodes, fieldBehind}
 use Rattle.tree.specs.Form.{isFine, blockForm, fieldForm}
-use Rattle.tree.specs.Walk.{codesIn, formIn}
+use Rattle.tree.specs.Fields.{codesIn, formIn}
 use Rattle.tree.specs.declared.Field.the-variants as fields
 use Rattle.tree.specs.declared.Form.the-variants.{Fine}
 use Rattle.tree.proofs.Forms.{is-fine, form-in, field-fits}

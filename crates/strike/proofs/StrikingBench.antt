@@ -6,7 +6,7 @@ use mathlib.Core.Path.{_≡_, refl}
 use Rattle.tree.specs.Block.{setBits, blockNumbers, blockEnd}
 use Rattle.tree.specs.Codes.{subCodes, subsBehind, groupCodes, groupBehind, parCodes, parsBehind, restCodes, restBehind, fieldCodes, fieldBehind}
 use Rattle.tree.specs.Form.{blockForm, subsForm, groupForm, parsForm, restForm, fieldForm}
-use Rattle.tree.specs.Walk.{isIn}
+use Rattle.tree.specs.Fields.{isIn}
 use Rattle.message.specs.Nonstandard.{nsForm, tailForm}
 use Rattle.message.specs.Reader.{messageForm, readMessage}
 use Rattle.writer.specs.Written.{blockFrom, run, from, positions, marked, subsWritten, lowerWritten, parWritten, parsWritten, restWritten, written}

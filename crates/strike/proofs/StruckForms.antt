@@ -12,7 +12,7 @@ use Rattle.octets.specs.Bits.{AreOctets}
 use Rattle.octets.specs.Places.{pick}
 use Rattle.tree.specs.Codes.{codeOf, fieldBase, fieldCodes}
 use Rattle.tree.specs.Form.{isFine, fieldForm}
-use Rattle.tree.specs.Walk.{isIn}
+use Rattle.tree.specs.Fields.{isIn}
 use Rattle.tree.specs.declared.Field.the-variants.{Identification, Standard}
 use Rattle.tree.specs.declared.Form.the-variants.{Fine}
 use Rattle.tree.proofs.Forms.{field-fits}

@@ -8,7 +8,7 @@ use lib.ListN.{length}
 use Rattle.octets.specs.Lay.{put}
 use Rattle.octets.specs.Places.{pick}
 use Rattle.tree.specs.Form.{isFine}
-use Rattle.tree.specs.Walk.{baseOf, codesIn, formIn}
+use Rattle.tree.specs.Fields.{baseOf, codesIn, formIn}
 use Rattle.tree.specs.declared.Field.{Field}
 use Rattle.message.specs.Reader.{mostOctets}
 use Rattle.writer.specs.Written.{written}

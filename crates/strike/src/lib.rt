@@ -10,7 +10,7 @@ ghost use Rattle.octets.specs.Lay.{put};
 ghost use Rattle.octets.specs.Places.{pick};
 ghost use Rattle.tree.specs.Block.{setBits, numbers, behind};
 ghost use Rattle.tree.specs.Codes.{groupBehind, parsBehind, subsBehind, fieldBehind};
-ghost use Rattle.tree.specs.Walk.{baseOf};
+ghost use Rattle.tree.specs.Fields.{baseOf};
 ghost use Rattle.message.specs.Kinds.{hasFields, typeOf};
 ghost use Rattle.message.specs.Reader.{mostOctets, listRoom, standardAt, tailAt, readMessage, accepted};
 ghost use Rattle.writer.specs.Writer.{isEmpty};

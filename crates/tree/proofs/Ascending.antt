@@ -13,7 +13,7 @@ use Rattle.octets.specs.Places.{pick}
 use Rattle.tree.specs.Block.{keep, setBits, blockNumbers, numbers, behind, ended}
 use Rattle.tree.specs.Codes.{subCodes, groupCodes, parCodes, restCodes, fieldCodes}
 use Rattle.tree.specs.Order.{Ascending, AllBelow}
-use Rattle.tree.specs.Walk.{baseOf, codesIn}
+use Rattle.tree.specs.Fields.{baseOf, codesIn}
 use Rattle.tree.specs.declared.Field.{Field}
 
 -- lo < x₁ < x₂ < .. ≤ hi
@@ -121,6 +121,10 @@ group-chain c l e h = go (ended l e)
     go true = none _ _ (omega arith)
     go false = lower (c + 448) (c + 0 * 512 + 448) _ _ (omega arith) (subs-chain c 0 _ l (behind 64 l e) h (numbers-chain 6 64 0 l e (omega arith) h))
 
+-- a Par(2) block
+par-chain : (c : ℕ) (l : List ℕ) (e : ℕ) → length l ≤ 64 → Chain c (numbers 6 64 c l e ++ groupCodes c l (behind 64 l e)) (c + 229824)
+par-chain c l e h = join c (numbers 6 64 c l e) (c + 448) _ _ (numbers-chain 6 64 c l e (omega arith) h) (group-chain c l (behind 64 l e) h)
+
 -- SPar(1) positions above s0, with their Par(2) blocks
 pars-chain : (b s0 : ℕ) (ss l : List ℕ) (e : ℕ) → length l ≤ 64 → Chain s0 ss 448 → Chain (b + s0 * 262144 + 229824) (parCodes b ss l e) (b + 117670336)
 unfolding parCodes
@@ -129,9 +133,7 @@ pars-chain b s0 (s ∷ ss) l e h k =
     let q = first s0 s ss 448 k in
     let c = b + s * 262144 in
     some _ _ _ _ (omega (arith, q .0))
-    (join c _ (c + 229824) _ _
-    (join c (numbers 6 64 c l e) (c + 448) _ _ (numbers-chain 6 64 c l e (omega arith) h) (group-chain c l (behind 64 l e) h))
-    (pars-chain b s ss l _ h (q .1)))
+    (join c _ (c + 229824) _ _ (par-chain c l e h) (pars-chain b s ss l _ h (q .1)))
 
 -- a field
 codes-chain : (b : ℕ) (l : List ℕ) (at : ℕ) → length l ≤ 64 → Chain b (fieldCodes b l at) (b + 117670336)
@@ -162,3 +164,25 @@ pub numbers-between : (w m p : ℕ) (l : List ℕ) (e : ℕ) → w ≤ 7 → len
 numbers-between w m p l e v h =
     let k = numbers-chain w m p l e v h in
     (rises p (numbers w m p l e) (p + 448) k, stays p (numbers w m p l e) (p + 448) (p + 449) (omega arith) k)
+
+-- the numbers of an octet ascend, and are at most w above what they stand above
+pub bits-between : (w p d : ℕ) → Ascending p (setBits w p d) × AllBelow (p + w + 1) (setBits w p d)
+bits-between w p d =
+    let k = bits-chain w p d in
+    (rises p (setBits w p d) (p + w) k, stays p (setBits w p d) (p + w) (p + w + 1) (omega arith) k)
+
+-- the numbers of a block ascend in any octets
+pub numbers-ascending : (w m p : ℕ) (l : List ℕ) (e : ℕ) → Ascending p (numbers w m p l e)
+numbers-ascending w m p l e = rises p (numbers w m p l e) (p + w * length (drop e l)) (block-chain w m p (drop e l))
+
+-- the codes that stand above one of SPar(2), and of SPar(1), ascend and are below the next of its level
+module _ (c : ℕ) (l : List ℕ) (e : ℕ) (h : length l ≤ 64) where
+  pub sub-between : Ascending c (numbers 6 64 c l e) × AllBelow (c + 512) (numbers 6 64 c l e)
+  sub-between = let k = numbers-chain 6 64 c l e (omega arith) h in (rises c _ (c + 448) k, stays c _ (c + 448) (c + 512) (omega arith) k)
+
+  pub par-between : Ascending c (numbers 6 64 c l e ++ groupCodes c l (behind 64 l e)) × AllBelow (c + 262144) (numbers 6 64 c l e ++ groupCodes c l (behind 64 l e))
+  par-between = let k = par-chain c l e h in (rises c _ (c + 229824) k, stays c _ (c + 229824) (c + 262144) (omega arith) k)
+
+  -- what stands behind NPar(2) is above all of its block
+  pub group-above : Ascending (c + 448) (groupCodes c l e)
+  group-above = rises (c + 448) _ (c + 229824) (group-chain c l e h)

@@ -1,9 +1,8 @@
 pub mod Forms
-pub mod Walking
+pub mod Lowest
 pub mod Few
 pub mod Ascending
 pub mod Filling
-pub mod Merging
 pub mod Within
 pub mod Modes
 pub mod Vectors

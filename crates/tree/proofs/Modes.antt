@@ -13,7 +13,7 @@ use Rattle.octets.specs.Places.{pick}
 use Rattle.tree.specs.Block.{numbers, behind, announced}
 use Rattle.tree.specs.Codes.{fieldBase, parCodes, restCodes, fieldCodes}
 use Rattle.tree.specs.Order.{Ascending, AllBelow}
-use Rattle.tree.specs.Walk.{isIn, hasSpar}
+use Rattle.tree.specs.Fields.{isIn, hasSpar}
 use Rattle.tree.proofs.Ascending.{numbers-between}
 use Rattle.tree.proofs.Within.{in-cases, in-first, in-rest}
 

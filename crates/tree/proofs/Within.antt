@@ -8,7 +8,7 @@ use mathlib.Core.Path.{_≡_, refl}
 use borrow.Author.Tests.{eq-eqb, eqb-true}
 use lib.Dec.{eqb}
 use Rattle.octets.specs.Places.{pick}
-use Rattle.tree.specs.Walk.{isIn, allIn}
+use Rattle.tree.specs.Fields.{isIn, allIn}
 
 -- ---- a number and the first of a list
 

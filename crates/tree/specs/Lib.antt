@@ -1,6 +1,5 @@
 pub mod Block
 pub mod Codes
 pub mod Form
-pub mod Walk
+pub mod Fields
 pub mod Order
-pub mod Seek

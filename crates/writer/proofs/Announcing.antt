@@ -16,7 +16,7 @@ use Rattle.octets.specs.Places.{pick}
 use Rattle.tree.specs.Block.{keep, setBits, blockNumbers, numbers, behind, ended}
 use Rattle.tree.specs.Codes.{codeOf, fieldBase, subCodes, groupCodes, groupBehind, parCodes, restCodes, fieldCodes}
 use Rattle.tree.specs.Form.{isFine}
-use Rattle.tree.specs.Walk.{isIn}
+use Rattle.tree.specs.Fields.{isIn}
 use Rattle.tree.specs.declared.Form.{Form}
 use Rattle.tree.specs.declared.Form.the-variants.{Fine, Left}
 use Rattle.tree.proofs.Forms.{is-fine}

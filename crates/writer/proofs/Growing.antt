@@ -13,7 +13,7 @@ use lib.Arith.{digits-div, digits-mod}
 use lib.Dec.{ltb, eqb, lit<}
 use lib.ListN.{length, length-append}
 use Rattle.octets.specs.Places.{pick}
-use Rattle.tree.specs.Walk.{isIn}
+use Rattle.tree.specs.Fields.{isIn}
 use Rattle.writer.specs.Written.{block, marked, run, from, positions, subsWritten, lowerWritten, parWritten, parsWritten, restWritten, written}
 use Rattle.writer.proofs.Trees.{Sub, sub, Par, par, Tree, tree, subPlaces, parPlaces, shift, subsCodes, parsCodes, treeCodes, subsOctets, lowerOctets, parOctets, parsOctets, treeOctets, Rising, GoodSubs, GoodPars, GoodTree}
 

@@ -12,7 +12,7 @@ use lib.Dec.{ltb, eqb}
 use lib.ListN.{length, getD}
 use Rattle.octets.specs.Places.{pick}
 use Rattle.tree.specs.Codes.{fieldBase}
-use Rattle.tree.specs.Walk.{isIn}
+use Rattle.tree.specs.Fields.{isIn}
 use Rattle.writer.specs.Meaning.{fOf, sOf, tOf, shaped, allShaped, ascendingFrom, ascending, parentOf, hasParent, allParented}
 use Rattle.writer.specs.Written.{run, from, written}
 use Rattle.writer.specs.Inner.{Between}

@@ -12,7 +12,7 @@ use lib.Dec.{ltb, eqb}
 use lib.ListN.{length, getD, drop}
 use Rattle.octets.specs.Places.{pick}
 use Rattle.tree.specs.Codes.{fieldBase}
-use Rattle.tree.specs.Walk.{isIn}
+use Rattle.tree.specs.Fields.{isIn}
 use Rattle.message.specs.Kinds.{known}
 use Rattle.writer.specs.Meaning.{fOf, sOf, tOf, nOf, shaped, allShaped, ascendingFrom, ascending, hasParent, allParented}
 use Rattle.writer.specs.Written.{from}

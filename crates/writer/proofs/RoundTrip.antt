@@ -15,7 +15,7 @@ use Rattle.octets.specs.Bits.{AreOctets}
 use Rattle.octets.specs.Places.{pick}
 use Rattle.tree.specs.Codes.{codeOf, fieldBase, fieldCodes, fieldBehind}
 use Rattle.tree.specs.Form.{isFine, fieldForm}
-use Rattle.tree.specs.Walk.{isIn}
+use Rattle.tree.specs.Fields.{isIn}
 use Rattle.tree.specs.declared.Form.the-variants.{Fine, Left}
 use Rattle.tree.proofs.Forms.{is-fine, and-parts, field-fits}
 use Rattle.message.specs.Kinds.{known, hasFields, typeOf, revisionOf, firstOctet}

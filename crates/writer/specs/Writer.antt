@@ -10,7 +10,7 @@ use Rattle.octets.specs.Lay.{put}
 use Rattle.octets.specs.Places.{pick}
 use Rattle.tree.specs.Codes.{codeOf, fieldBase}
 use Rattle.tree.specs.Form.{isFine}
-use Rattle.tree.specs.Walk.{isIn}
+use Rattle.tree.specs.Fields.{isIn}
 use Rattle.message.specs.Kinds.{known, hasFields, firstOctet}
 use Rattle.message.specs.Nonstandard.{nsForm}
 use Rattle.message.specs.Reader.{mostOctets}

@@ -5,7 +5,7 @@ ghost use mathlib.Core.List.{[], _∷_, _++_};
 ghost use Prim.Native.Nat.{_+_, _-_, _*_, _%_, _^_, _≤_, _<_};
 ghost use lib.ListN.{length, getD, set};
 ghost use Rattle.tree.specs.Codes.{fieldBase};
-ghost use Rattle.tree.specs.Walk.{isIn};
+ghost use Rattle.tree.specs.Fields.{isIn};
 ghost use Rattle.writer.specs.Meaning.{shaped, allShaped, ascending, parentOf, allParented};
 ghost use Rattle.writer.specs.Written.{passed, skipped, carried, block, run, from, positions, subsWritten, lowerWritten, parWritten, parsWritten, written};
 ghost use Rattle.message.specs.Kinds.{known};

@@ -3,7 +3,7 @@
 use mathlib.Core.List.{[]}
 use mathlib.Core.Path.{_≡_, refl, sym}
 use Rattle.octets.proofs.Laying.{put-nil}
-use Rattle.tree.specs.Walk.{codesIn}
+use Rattle.tree.specs.Fields.{codesIn}
 use Rattle.tree.specs.declared.Field.the-variants.{Standard}
 use Rattle.message.specs.Reader.{standardAt}
 use Rattle.writer.specs.Writer.{messageOctets}

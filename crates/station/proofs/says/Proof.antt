@@ -6,7 +6,7 @@ use native.Mathlib.Omega.{arith}
 use borrow.Author.Needs.{needs}
 use borrow.Author.Tests.{lt-ltb}
 use Rattle.tree.specs.Codes.{fieldBase}
-use Rattle.tree.specs.Walk.{isIn, codesIn, hasFirst}
+use Rattle.tree.specs.Fields.{isIn, codesIn, hasFirst}
 use Rattle.tree.specs.declared.Field.the-variants.{Identification}
 use Rattle.station.proofs.FarSide.{said-first}
 use Rattle.station.proofs.says.Statement.{statement}

@@ -4,10 +4,10 @@ use mathlib.Core.Path.{refl, sym}
 use borrow.Author.Needs.{needs}
 use borrow.Author.Tests.{le-ltb}
 use Rattle.tree.specs.Codes.{fieldBase}
-use Rattle.tree.specs.Walk.{codesIn, hasSpar}
+use Rattle.tree.specs.Fields.{codesIn, hasSpar}
 use Rattle.tree.specs.declared.Field.the-variants.{Standard}
 use Rattle.tree.proofs.Modes.{field-spar}
-use Rattle.tree.proofs.Walking.{codes-long}
+use Rattle.tree.proofs.Lowest.{codes-long}
 use Rattle.tree.proofs.has_spar.Statement.{statement}
 use Rattle.tree.proofs.has_spar.Tie as tie
 

@@ -5,7 +5,7 @@ use mathlib.Core.Path.{_≡_, refl}
 use native.Mathlib.Omega.{arith}
 use borrow.Author.Tests.{eq-eqb, ne-eqb}
 use lib.ListN.{length, drop, drop-of-length-le}
-use Rattle.tree.specs.Walk.{isIn}
+use Rattle.tree.specs.Fields.{isIn}
 use Rattle.writer.proofs.Putting.{drop-next}
 use Rattle.writer.proofs.contains.Statement.{statement}
 use Rattle.writer.proofs.contains.Tie as tie

@@ -1,0 +1,62 @@
+-- `fill::fill_bits` meets its contract: a list without room stays as it is.
+-- Assumes nothing.
+use mathlib.Core.Logic.{⊎-elim}
+use mathlib.Core.Path.{_≡_, ap, sym, _∙_}
+use borrow.Author.Needs.{needs}
+use lib.ListN.{length}
+use lib.Seq.{sets, length-sets}
+use Rattle.tree.specs.Block.{setBits}
+use Rattle.tree.proofs.Filling.{sets-out}
+use Rattle.fill.proofs.Stored.{stores-numbers}
+use Rattle.fill.proofs.fill_bits.Statement.{statement}
+use Rattle.fill.proofs.fill_bits.Tie as tie
+
+fill-numbers-requires : tie.Need-fill-numbers-requires
+fill-numbers-requires c κs = search needs
+
+same-length : tie.Need-same-length
+same-length c = search needs
+
+returns : tie.Need-returns
+returns c =
+    let f = c .before .before in
+    let e = f .fill-numbers .ensures in
+    stores-numbers (e .0) (e .1) (f .before .before .if1 .taken)
+
+fill-numbers-requires-2 : tie.Need-fill-numbers-requires-2
+fill-numbers-requires-2 c κs = search needs
+
+fill-fours-requires : tie.Need-fill-fours-requires
+fill-fours-requires c κs = search needs
+
+-- where there is no room the numbers are not stored
+stored : (c : tie.Joined2) → let a = c .before .before .before .before .args in
+    c .if2 .list ≡ sets (a .list .now) (a .n) (setBits (a .w) (a .above) (a .octet))
+stored c =
+    let a = c .before .before .before .before .args in
+    ⊎-elim (λ w. w .5 ∙ w .2 .ensures .1) (λ w. w .1 ∙ sym (sets-out _ _ (setBits (a .w) (a .above) (a .octet)) (w .0 .left))) (c .if2 .came)
+
+same-length-2 : tie.Need-same-length-2
+same-length-2 c = ap length (stored (c .before .before .before .before)) ∙ simp length-sets
+
+same-length-3 : tie.Need-same-length-3
+same-length-3 c = search needs
+
+returns-2 : tie.Need-returns-2
+returns-2 c =
+    let f = c .before .before in
+    let e = f .fill-fours .ensures in
+    record { count = e .0; list = stored (f .before .before); octets = e .1 }
+
+pub fill-bits-spec : {M : Type 1} → statement M
+fill-bits-spec =
+    tie.close
+    (tie.spec
+    fill-numbers-requires
+    same-length
+    returns
+    fill-numbers-requires-2
+    fill-fours-requires
+    same-length-2
+    same-length-3
+    returns-2)

@@ -1,0 +1,75 @@
+-- The lowest bit set in an octet, found by counting the zeros below it; and what is known of a field before it is read.
+-- Assumes nothing.
+use Prim.Native.Nat.{ℕ, zero, suc, _+_, _-_, _/_, _%_, _^_, _<_, _≤_}
+use mathlib.Core.Path.{_≡_, refl, sym, ap, _∙_}
+use mathlib.Core.List.{List, [], _∷_}
+use native.Mathlib.Nat.{div-one, pow-suc}
+use native.Mathlib.Numerals.{add-one}
+use native.Mathlib.Omega.{arith}
+use borrow.Author.Tests.{le-ltb, lt-ltb}
+use lib.Count.{trailingZeros, under}
+use lib.ListN.{length}
+use lib.Pow.{field, mod-mod-pow, shr-shr}
+use Rattle.tree.specs.Block.{setBits}
+use Rattle.tree.specs.Codes.{fieldCodes}
+use Rattle.tree.specs.Fields.{baseOf, codesIn}
+use Rattle.tree.specs.declared.Field.{Field}
+use Rattle.tree.specs.declared.Field.the-variants.{Identification, Standard}
+
+-- ---- the bits of an octet
+
+-- z zeros stand below the lowest set bit, and behind it come the bits above
+abbrev pub Lowest : ℕ → ℕ → ℕ → ℕ → Type 0
+Lowest w p d z =
+    (z < w) × (setBits w p d ≡ (p + (z + 1)) ∷ setBits (w - (z + 1)) (p + (z + 1)) (d / 2 ^ z / 2)) × (d / 2 ^ z / 2 < 2 ^ (w - (z + 1)))
+
+-- so it is with the zeros that are counted, in a number of w bits that is not 0
+pub lowest : (k w p d : ℕ) → w ≤ k → 0 < d → d < 2 ^ w → Lowest w p d (trailingZeros k d)
+unfolding trailingZeros setBits
+lowest k zero p d h pos fits = absurd (omega arith)
+lowest zero (suc w) p d h pos fits = absurd (omega arith)
+lowest (suc k) (suc w) p d h pos fits =
+    go (d % 2) refl (λ (q : 0 < d / 2). lowest k w (p + 1) (d / 2) (omega arith) q (omega (arith, pow-suc 2 w)))
+  where
+    go : (b : ℕ) → d % 2 ≡ b → (0 < d / 2 → Lowest w (p + 1) (d / 2) (trailingZeros k (d / 2)))
+        → Lowest (suc w) p d (under b (trailingZeros k (d / 2)))
+    go zero e rest =
+        let r = rest (omega arith) in
+        let z = trailingZeros k (d / 2) in
+        let n : p + (suc z + 1) ≡ p + 1 + (z + 1) = omega arith in
+        let i : suc w - (suc z + 1) ≡ w - (z + 1) = omega arith in
+        let s : d / 2 ^ suc z ≡ d / 2 / 2 ^ z = sym (shr-shr d 1 z ∙ ap (λ (j : ℕ). d / 2 ^ j) (omega arith)) in
+        rw (e, n, i, s) (omega (arith, r .0), r .1, r .2)
+    go (suc b) e rest = let i : suc w - 1 ≡ w = omega arith in rw (e, i, div-one d) (omega arith, refl, omega (arith, pow-suc 2 w))
+
+-- no bit is set in 0
+pub bits-none : (w p : ℕ) → setBits w p 0 ≡ []
+unfolding setBits
+bits-none zero p = refl
+bits-none (suc w) p = bits-none w (p + 1)
+
+-- the w lowest bits of a number are those of what is left of it below 2 ^ w
+pub bits-below : (w p d : ℕ) → setBits w p (d % 2 ^ w) ≡ setBits w p d
+unfolding setBits
+bits-below zero p d = refl
+bits-below (suc w) p d =
+    let m : d % 2 ^ suc w % 2 ≡ d % 2 = ap (λ (n : ℕ). d % 2 ^ n % 2) (sym (add-one w)) ∙ mod-mod-pow d w 1 in
+    let h : d % 2 ^ suc w / 2 ≡ d / 2 % 2 ^ w = ap (λ (n : ℕ). d % 2 ^ n / 2) (sym (add-one w)) ∙ field d w 1 in
+    rw (m, h, bits-below w (p + 1) (d / 2))
+
+-- ---- a field
+
+-- more octets than a message has give no code
+pub codes-long : (f : Field) (l : List ℕ) (at : ℕ) → 64 < length l → codesIn f l at ≡ []
+unfolding codesIn
+codes-long f l at h = rw (lt-ltb 64 (length l) h)
+
+-- else they are those that stand above its base
+pub codes-short : (f : Field) (l : List ℕ) (at : ℕ) {b : ℕ} → length l ≤ 64 → b ≡ baseOf f → fieldCodes b l at ≡ codesIn f l at
+unfolding codesIn
+codes-short f l at h e = rw (e, le-ltb 64 (length l) h)
+
+-- what the codes of a field stand above is small
+pub base-small : (f : Field) → baseOf f ≤ 268435456
+base-small Identification = omega arith
+base-small Standard = omega arith

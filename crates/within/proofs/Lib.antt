@@ -1,0 +1,5 @@
+pub mod Apart
+pub mod Taking
+pub mod Stepping
+pub mod Beside
+pub mod Opening

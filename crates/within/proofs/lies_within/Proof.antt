@@ -1,0 +1,46 @@
+-- `within::lies_within` meets its contract: by `field_within`; in more octets than a message has there are no codes.
+-- Assumes nothing.
+use borrow.Author.Needs.{needs}
+use Rattle.tree.specs.Fields.{allIn}
+use Rattle.within.proofs.Beside.{within-short, within-long}
+use Rattle.tree.proofs.Lowest.{codes-long}
+use Rattle.within.proofs.lies_within.Statement.{statement}
+use Rattle.within.proofs.lies_within.Tie as tie
+
+returns : tie.Need-returns
+unfolding allIn
+returns c = let a = c .before .before .before .args in rw (codes-long (a .field) (a .s .now) (a .i) (c .if1 .taken))
+
+sub-field-within : tie.Need-sub-field-within
+sub-field-within c = search needs
+
+part-field-within-start : tie.Need-part-field-within-start
+part-field-within-start c = search needs
+
+part-field-within-end : tie.Need-part-field-within-end
+part-field-within-end c = search needs
+
+field-within-requires : tie.Need-field-within-requires
+field-within-requires c κs = search needs
+
+returns-2 : tie.Need-returns-2
+returns-2 c = within-long _ _ _ _ _ _ (c .before .before .before .if1 .left) (c .before .before .if2 .taken) (c .field-within .ensures)
+
+field-within-requires-2 : tie.Need-field-within-requires-2
+field-within-requires-2 c κs = search needs
+
+returns-3 : tie.Need-returns-3
+returns-3 c = within-short _ _ _ _ _ _ (c .before .before .if1 .left) (c .before .if2 .left) (c .field-within2 .ensures)
+
+pub lies-within-spec : {M : Type 1} → statement M
+lies-within-spec =
+    tie.close
+    (tie.spec
+    returns
+    sub-field-within
+    part-field-within-start
+    part-field-within-end
+    field-within-requires
+    returns-2
+    field-within-requires-2
+    returns-3)
