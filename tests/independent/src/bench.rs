@@ -1,27 +1,12 @@
 //! The bench: checks are put to the programs one by one, differences are
 //! reported, and the outcomes met are counted.
 
+pub use crate::score::Outcome;
+
 use crate::program::{Ended, Program};
 use crate::random::Random;
+use crate::score::{Required, Score};
 use crate::wire;
-use std::collections::BTreeMap;
-use std::fmt;
-
-/// An operation's answer number: 0 for success, otherwise the refusal.
-#[derive(Clone, Copy, Debug, PartialEq, Eq, PartialOrd, Ord)]
-pub struct Outcome {
-    pub operation: &'static str,
-    pub number: u8,
-}
-
-impl fmt::Display for Outcome {
-    fn fmt(&self, f: &mut fmt::Formatter) -> fmt::Result {
-        match self.number {
-            0 => write!(f, "{} success", self.operation),
-            number => write!(f, "{} refusal {number}", self.operation),
-        }
-    }
-}
 
 /// One request with the reply it must get.
 pub struct Case {
@@ -74,6 +59,9 @@ impl Case {
     }
 }
 
+/// A family of requests that are all known beforehand.
+pub type Requests = fn(&mut Random) -> Vec<Case>;
+
 type Work = Box<dyn FnOnce(&mut Bench) -> Result<(), String>>;
 
 /// A named family of requests.
@@ -119,12 +107,6 @@ pub struct Layer {
     pub often_enough: usize,
 }
 
-/// An outcome that has to be met so many times.
-struct Required {
-    outcome: Outcome,
-    times: usize,
-}
-
 impl Layer {
     fn required(&self) -> impl Iterator<Item = Required> + '_ {
         let times = self.often_enough;
@@ -136,10 +118,8 @@ impl Layer {
 pub struct Bench {
     programs: Programs,
     asked: Asked,
-    met: BTreeMap<Outcome, usize>,
+    score: Score,
     requests: usize,
-    passed: usize,
-    failed: usize,
 }
 
 impl Bench {
@@ -147,10 +127,8 @@ impl Bench {
         Bench {
             programs,
             asked: Asked::Probe,
-            met: BTreeMap::new(),
+            score: Score::of("requests"),
             requests: 0,
-            passed: 0,
-            failed: 0,
         }
     }
 
@@ -179,7 +157,7 @@ impl Bench {
     pub fn compare(&mut self, cases: &[Case]) -> Result<(), String> {
         for case in cases {
             for outcome in [case.outcome].into_iter().chain(case.counted_too) {
-                *self.met.entry(outcome).or_default() += 1;
+                self.score.meet(outcome);
             }
         }
         if let Some(case) = cases.iter().find(|case| !case.is_as_due()) {
@@ -200,39 +178,16 @@ impl Bench {
     /// True if nothing failed.
     pub fn run(mut self, layers: Vec<Layer>) -> bool {
         let mut required = Vec::new();
-        let mut total = 0;
         for layer in layers {
             required.extend(layer.required());
             self.asked = layer.asked;
             for check in layer.checks {
                 self.requests = 0;
                 let result = (check.work)(&mut self);
-                total += self.requests;
-                let size = format!(" ({} requests)", self.requests);
-                self.report(&check.name, &size, result);
+                self.score.family(&check.name, self.requests, result);
             }
         }
-        for (outcome, times) in &self.met {
-            println!("met  {outcome}: {times}");
-        }
-        let result = all_met(&required, &self.met);
-        self.report("every refusal met", "", result);
-        println!("{total} requests in all");
-        println!("{} passed, {} failed", self.passed, self.failed);
-        self.failed == 0
-    }
-
-    fn report(&mut self, name: &str, size: &str, result: Result<(), String>) {
-        match result {
-            Ok(()) => {
-                self.passed += 1;
-                println!("ok   {name}{size}");
-            }
-            Err(reason) => {
-                self.failed += 1;
-                println!("FAIL {name}{size}: {reason}");
-            }
-        }
+        self.score.finish(&required)
     }
 }
 
@@ -257,19 +212,6 @@ pub fn same_replies(
     }
 }
 
-fn all_met(required: &[Required], met: &BTreeMap<Outcome, usize>) -> Result<(), String> {
-    let times_met = |outcome| met.get(outcome).copied().unwrap_or(0);
-    let missed: Vec<String> = required
-        .iter()
-        .filter(|required| times_met(&required.outcome) < required.times)
-        .map(|required| format!("{} under {} times", required.outcome, required.times))
-        .collect();
-    if missed.is_empty() {
-        return Ok(());
-    }
-    Err(format!("met too seldom: {}", missed.join(", ")))
-}
-
 #[cfg(test)]
 mod tests {
     use super::*;
@@ -278,23 +220,6 @@ mod tests {
         operation: "some operation",
         number: 0,
     };
-
-    #[test]
-    fn an_outcome_met_too_seldom_is_named() {
-        let refusal = Outcome {
-            number: 4,
-            ..SUCCESS
-        };
-        let met = BTreeMap::from([(SUCCESS, 7), (refusal, 6)]);
-        let seven_times = |outcome| Required { outcome, times: 7 };
-        assert_eq!(all_met(&[seven_times(SUCCESS)], &met), Ok(()));
-        let required = [seven_times(SUCCESS), seven_times(refusal)];
-        let missed = all_met(&required, &met).unwrap_err();
-        assert_eq!(
-            missed,
-            "met too seldom: some operation refusal 4 under 7 times"
-        );
-    }
 
     #[test]
     fn the_first_difference_is_shown() {

@@ -11,7 +11,7 @@ const ONES_BEFORE_ZERO: u8 = 5;
 
 const FCS_OCTETS: usize = 2;
 const MOST_INFORMATION: usize = 64;
-const MOST_BITS: u32 = 704;
+const MOST_BITS: usize = 704;
 const READER_ROOM: usize = 64;
 const WRITER_ROOM: usize = 88;
 
@@ -258,14 +258,13 @@ impl Receiver {
 }
 
 /// The frame reader.
-pub fn read(bit_count: u32, run: &[u8], out: &[u8]) -> Answer {
-    let bits_lent = 8 * run.len() as u64;
-    let within_limits = bit_count <= MOST_BITS && u64::from(bit_count) <= bits_lent;
+pub fn read(bit_count: usize, run: &[u8], out: &[u8]) -> Answer {
+    let within_limits = bit_count <= MOST_BITS && bit_count.div_ceil(8) <= run.len();
     if !within_limits || out.len() < READER_ROOM {
         return Answer::refused(number::LIMITS, out);
     }
     let mut receiver = Receiver::new();
-    let bits = bits_of(run).take(bit_count as usize);
+    let bits = bits_of(run).take(bit_count);
     bits.for_each(|bit| receiver.hear(bit));
     match receiver.verdict() {
         Ok(information) => Answer::written(information.len(), &information, out),
@@ -274,7 +273,7 @@ pub fn read(bit_count: u32, run: &[u8], out: &[u8]) -> Answer {
 }
 
 /// The frame writer.
-pub fn write(opening: u8, closing: u8, information: &[u8], out: &[u8]) -> Answer {
+pub fn write(opening: usize, closing: usize, information: &[u8], out: &[u8]) -> Answer {
     if out.len() < WRITER_ROOM {
         return Answer::refused(number::LIMITS, out);
     }
@@ -286,9 +285,9 @@ pub fn write(opening: u8, closing: u8, information: &[u8], out: &[u8]) -> Answer
     }
     let fcs = FcsRegister::after(bits_of(information)).fcs();
     let content = ZeroInserter::over(bits_of(information).chain(fcs));
-    let bits: Vec<bool> = flags(usize::from(opening))
+    let bits: Vec<bool> = flags(opening)
         .chain(content)
-        .chain(flags(usize::from(closing)))
+        .chain(flags(closing))
         .collect();
     Answer::written(bits.len(), &packed(&bits), out)
 }
@@ -297,7 +296,7 @@ pub fn write(opening: u8, closing: u8, information: &[u8], out: &[u8]) -> Answer
 mod tests {
     use super::*;
 
-    fn written(opening: u8, closing: u8, information: &[u8]) -> (u16, Vec<u8>) {
+    fn written(opening: usize, closing: usize, information: &[u8]) -> (u16, Vec<u8>) {
         let answer = write(opening, closing, information, &[0; WRITER_ROOM]);
         assert_eq!(answer.number, number::SUCCESS);
         (answer.count, answer.out)
@@ -349,9 +348,9 @@ mod tests {
     fn round_trip() {
         for length in 1..=MOST_INFORMATION {
             let information: Vec<u8> = (0..length).map(|place| (place * 37) as u8 | 0x3C).collect();
-            let (opening, closing) = (2 + length as u8 % 4, 1 + length as u8 % 3);
+            let (opening, closing) = (2 + length % 4, 1 + length % 3);
             let (bits, run) = written(opening, closing, &information);
-            let answer = read(u32::from(bits), &run, &[0x55; 70]);
+            let answer = read(usize::from(bits), &run, &[0x55; 70]);
             assert_eq!(answer.number, number::SUCCESS);
             assert_eq!(usize::from(answer.count), length);
             assert_eq!(answer.out[..length], information);
@@ -364,7 +363,7 @@ mod tests {
         let (bits, run) = written(3, 1, &[0x88]);
         let mut heard: Vec<bool> = bits_of(&run).take(usize::from(bits)).collect();
         heard.remove(16);
-        let answer = read(u32::from(bits) - 1, &packed(&heard), &[0; 64]);
+        let answer = read(usize::from(bits) - 1, &packed(&heard), &[0; 64]);
         assert_eq!(answer.number, number::BOUNDS);
     }
 

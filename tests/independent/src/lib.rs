@@ -1,18 +1,25 @@
-//! An implementation of its own, written apart from the product, and the two
-//! programs that put it to use: the comparison of the probe and the chooser
-//! with it, and the diagram of the station's phases as the probe walks them.
+//! An implementation of its own, written apart from the product, and the
+//! programs that put it to use: the comparisons of the probe and the chooser,
+//! of the functions for C and of the listing program with it, and the diagram
+//! of the station's phases as the probe walks them.
 //! Each layer of the product has a module of its own with its checks.
 
 mod bench;
+mod bench_positions;
 mod choice;
 mod choice_checks;
+#[cfg(feature = "exported")]
+mod exported;
 mod frame;
 mod frame_checks;
+mod listing;
+mod listing_checks;
 mod message;
 mod message_checks;
 mod phases;
 mod program;
 mod random;
+mod score;
 mod station;
 mod station_checks;
 mod striking_checks;
@@ -33,12 +40,26 @@ pub fn compare(probe: &Path, chooser: &Path, vectors: &Path) -> bool {
         striking_checks::layer(),
         choice_checks::layer(),
         station_checks::layer(),
+        bench_positions::layer(),
     ];
     let programs = Programs {
         probe: wire_checks::probe(probe.to_path_buf()),
         chooser: choice_checks::chooser(chooser.to_path_buf()),
     };
     Bench::new(programs).run(layers)
+}
+
+/// Compares the functions of the static library with the implementation here.
+/// True if nothing failed.
+#[cfg(feature = "exported")]
+pub fn compare_exported() -> bool {
+    exported::compare()
+}
+
+/// Compares the listing program with the formatter here. True if nothing
+/// failed.
+pub fn compare_listings(listing: &Path) -> bool {
+    listing_checks::compare(listing)
 }
 
 /// The phases of the probe's station as a Mermaid state diagram.

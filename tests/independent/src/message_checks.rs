@@ -23,6 +23,7 @@ mod writer_spoiled;
 
 pub use causes::all_sets as with_all_sets_of_causes;
 pub use damage::each_bit_inverted;
+pub use reader_limits::FAMILIES as READER_LIMITS;
 pub use round_trips::message_written;
 pub use shapes::{near_front, random_code};
 
@@ -32,7 +33,8 @@ use requests::{Family, Put};
 pub fn layer() -> Layer {
     let mut checks = vec![Check::new("messages known beforehand", named::check)];
     checks.extend(on_messages("message reader", requests::heard));
-    checks.extend(reader_limits::checks());
+    let limits = READER_LIMITS.iter();
+    checks.extend(limits.map(|&(name, family)| Check::of_cases(name, family)));
     checks.extend(writer_lists::checks());
     checks.extend(writer_spoiled::checks());
     checks.extend(writer_first_octets::checks());
@@ -48,17 +50,21 @@ pub fn layer() -> Layer {
     }
 }
 
-/// All families of messages, put to an operation on a message.
-pub fn on_messages(operation: &str, put: Put) -> Vec<Check> {
-    let families = whole::FAMILIES
+/// All families of messages.
+pub fn families() -> impl Iterator<Item = &'static (&'static str, Family)> {
+    whole::FAMILIES
         .iter()
         .chain(&first_octets::FAMILIES)
         .chain(&non_standard::FAMILIES)
         .chain(&causes::FAMILIES)
-        .chain(&damage::FAMILIES);
+        .chain(&damage::FAMILIES)
+}
+
+/// All families of messages, put to an operation on a message.
+pub fn on_messages(operation: &str, put: Put) -> Vec<Check> {
     let check = |&(messages, family): &(&str, Family)| {
         let name = format!("{operation}: {messages}");
         Check::of_cases(&name, move |random| family(random, put))
     };
-    families.map(check).collect()
+    families().map(check).collect()
 }

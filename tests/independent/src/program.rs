@@ -4,7 +4,7 @@
 use crate::wire::{self, Separated};
 use std::io::{self, Read, Write};
 use std::path::PathBuf;
-use std::process::{Child, Command, Stdio};
+use std::process::{Command, Stdio};
 use std::sync::mpsc;
 use std::thread;
 use std::time::Duration;
@@ -81,7 +81,8 @@ impl Program {
             // A program that stops reading early is noticed by its replies.
             let _ = to_program.write_all(&input);
         });
-        let Some(output) = output_in_time(&mut child) else {
+        let from_program = child.stdout.take().expect("standard output is piped");
+        let Some(output) = read_in_time(from_program, PATIENCE) else {
             self.has_hung = true;
             let ended = child.kill().and_then(|()| child.wait());
             ended.map_err(|error| error.to_string())?;
@@ -94,9 +95,11 @@ impl Program {
     }
 }
 
-/// All that the child writes; nothing if it takes too long.
-fn output_in_time(child: &mut Child) -> Option<io::Result<Vec<u8>>> {
-    let mut from_program = child.stdout.take().expect("standard output is piped");
+/// All that a program writes; nothing if it takes too long.
+pub fn read_in_time(
+    mut from_program: impl Read + Send + 'static,
+    patience: Duration,
+) -> Option<io::Result<Vec<u8>>> {
     let (hand_over, receive) = mpsc::channel();
     thread::spawn(move || {
         let mut output = Vec::new();
@@ -104,5 +107,5 @@ fn output_in_time(child: &mut Child) -> Option<io::Result<Vec<u8>>> {
         // Nobody waits for the output any more once the time is up.
         let _ = hand_over.send(outcome);
     });
-    receive.recv_timeout(PATIENCE).ok()
+    receive.recv_timeout(patience).ok()
 }

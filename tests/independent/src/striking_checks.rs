@@ -8,7 +8,7 @@ mod mixed;
 mod requests;
 mod single;
 
-pub use requests::request;
+pub use requests::{case, request};
 
 use crate::bench::{Asked, Layer};
 use crate::message_checks::on_messages;

@@ -2,34 +2,32 @@
 //! their zero, bits left over.
 
 use super::runs::*;
-use crate::bench::{Case, Check};
+use crate::bench::{Case, Requests};
 use crate::random::Random;
 
-pub fn checks() -> Vec<Check> {
-    vec![
-        Check::of_cases("frame reader: wrong number of opening flags", opening_flags),
-        Check::of_cases("frame reader: wrong number of closing flags", closing_flags),
-        Check::of_cases("frame reader: opening flags sharing a zero", opening_shared),
-        Check::of_cases("frame reader: closing flags sharing a zero", closing_shared),
-        Check::of_cases(
-            "frame reader: a flag sharing a zero with the content",
-            content_shared,
-        ),
-        Check::of_cases("frame reader: flags only", flags_only),
-        Check::of_cases("frame reader: six or more ones inside", many_ones),
-        Check::of_cases("frame reader: an inserted zero turned to one", zero_to_one),
-        Check::of_cases(
-            "frame reader: last zero left out behind the FCS",
-            fcs_zero_missing,
-        ),
-        Check::of_cases(
-            "frame reader: last zero left out behind any content",
-            zero_missing,
-        ),
-        Check::of_cases("frame reader: bits left over", left_over),
-        Check::of_cases("frame reader: abort sequences", aborts),
-    ]
-}
+pub const FAMILIES: [(&str, Requests); 12] = [
+    ("frame reader: wrong number of opening flags", opening_flags),
+    ("frame reader: wrong number of closing flags", closing_flags),
+    ("frame reader: opening flags sharing a zero", opening_shared),
+    ("frame reader: closing flags sharing a zero", closing_shared),
+    (
+        "frame reader: a flag sharing a zero with the content",
+        content_shared,
+    ),
+    ("frame reader: flags only", flags_only),
+    ("frame reader: six or more ones inside", many_ones),
+    ("frame reader: an inserted zero turned to one", zero_to_one),
+    (
+        "frame reader: last zero left out behind the FCS",
+        fcs_zero_missing,
+    ),
+    (
+        "frame reader: last zero left out behind any content",
+        zero_missing,
+    ),
+    ("frame reader: bits left over", left_over),
+    ("frame reader: abort sequences", aborts),
+];
 
 fn short_content(random: &mut Random) -> Bits {
     let length = random.within(1, 20);

@@ -2,15 +2,10 @@
 //! first of them in its order.
 
 use super::runs::*;
-use crate::bench::{Case, Check};
+use crate::bench::{Case, Requests};
 use crate::random::Random;
 
-pub fn checks() -> Vec<Check> {
-    vec![Check::of_cases(
-        "frame reader: several causes at once",
-        several,
-    )]
-}
+pub const FAMILIES: [(&str, Requests); 1] = [("frame reader: several causes at once", several)];
 
 /// A run that is bounded well or badly, with the number due for that.
 fn bounded(content: &[bool], way: usize) -> (Bits, Option<u8>) {

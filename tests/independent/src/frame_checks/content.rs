@@ -2,22 +2,20 @@
 //! number of octets, too short, too long, or has a wrong FCS.
 
 use super::runs::*;
-use crate::bench::{Case, Check};
+use crate::bench::{Case, Requests};
 use crate::frame::FcsRegister;
 use crate::random::Random;
 
-pub fn checks() -> Vec<Check> {
-    vec![
-        Check::of_cases("frame reader: content of 0 to 23 bits", few_bits),
-        Check::of_cases("frame reader: all contents of 1 to 10 bits", all_short),
-        Check::of_cases("frame reader: no whole number of octets", part_octets),
-        Check::of_cases("frame reader: content of 1 to 3 octets", few_octets),
-        Check::of_cases("frame reader: content of 64 octets and more", many_octets),
-        Check::of_cases("frame reader: FCS wrong in every bit", fcs_bits),
-        Check::of_cases("frame reader: FCS wrong in many bits", fcs_many_bits),
-        Check::of_cases("frame reader: FCS made in another way", fcs_variants),
-    ]
-}
+pub const FAMILIES: [(&str, Requests); 8] = [
+    ("frame reader: content of 0 to 23 bits", few_bits),
+    ("frame reader: all contents of 1 to 10 bits", all_short),
+    ("frame reader: no whole number of octets", part_octets),
+    ("frame reader: content of 1 to 3 octets", few_octets),
+    ("frame reader: content of 64 octets and more", many_octets),
+    ("frame reader: FCS wrong in every bit", fcs_bits),
+    ("frame reader: FCS wrong in many bits", fcs_many_bits),
+    ("frame reader: FCS made in another way", fcs_variants),
+];
 
 /// The plain bits with their zeros inserted, between any good flags.
 fn between_good_flags(random: &mut Random, plain: &[bool]) -> Case {

@@ -1,22 +1,20 @@
 //! Frames damaged on the line at every place, and runs made at random.
 
 use super::runs::*;
-use crate::bench::{Case, Check};
+use crate::bench::{Case, Requests};
 use crate::random::Random;
 
-pub fn checks() -> Vec<Check> {
-    vec![
-        Check::of_cases("frame reader: one bit inverted, every bit", one_inverted),
-        Check::of_cases("frame reader: two bits inverted", two_inverted),
-        Check::of_cases("frame reader: one bit removed, every bit", one_removed),
-        Check::of_cases("frame reader: one bit inserted, every place", one_inserted),
-        Check::of_cases("frame reader: cut at every length", cut),
-        Check::of_cases("frame reader: begun at every place", begun_late),
-        Check::of_cases("frame reader: random runs", random_runs),
-        Check::of_cases("frame reader: random contents", random_contents),
-        Check::of_cases("frame reader: runs of random pieces", random_pieces),
-    ]
-}
+pub const FAMILIES: [(&str, Requests); 9] = [
+    ("frame reader: one bit inverted, every bit", one_inverted),
+    ("frame reader: two bits inverted", two_inverted),
+    ("frame reader: one bit removed, every bit", one_removed),
+    ("frame reader: one bit inserted, every place", one_inserted),
+    ("frame reader: cut at every length", cut),
+    ("frame reader: begun at every place", begun_late),
+    ("frame reader: random runs", random_runs),
+    ("frame reader: random contents", random_contents),
+    ("frame reader: runs of random pieces", random_pieces),
+];
 
 /// A few frames of lengths from shortest to longest.
 fn some_frames(random: &mut Random) -> Vec<Bits> {

@@ -1,19 +1,17 @@
 //! The reader's refusal 1: bit counts and rooms out of limits.
 
 use super::runs::*;
-use crate::bench::{Case, Check};
+use crate::bench::{Case, Requests};
 use crate::frame;
 use crate::random::Random;
 
-pub fn checks() -> Vec<Check> {
-    vec![
-        Check::of_cases("frame reader: every room too small", small_rooms),
-        Check::of_cases("frame reader: bit counts above 704", high_counts),
-        Check::of_cases("frame reader: bit counts up to 704", counts_within),
-        Check::of_cases("frame reader: bit counts above the run's", counts_beyond),
-        Check::of_cases("frame reader: very large bit counts", huge_counts),
-    ]
-}
+pub const FAMILIES: [(&str, Requests); 5] = [
+    ("frame reader: every room too small", small_rooms),
+    ("frame reader: bit counts above 704", high_counts),
+    ("frame reader: bit counts up to 704", counts_within),
+    ("frame reader: bit counts above the run's", counts_beyond),
+    ("frame reader: very large bit counts", huge_counts),
+];
 
 fn small_rooms(random: &mut Random) -> Vec<Case> {
     let mut cases = Vec::new();

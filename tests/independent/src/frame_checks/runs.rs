@@ -32,7 +32,7 @@ pub fn writer_request(opening: u8, closing: u8, information: &[u8], out: &[u8]) 
 }
 
 pub fn reader_case(bit_count: u32, run: &[u8], out: &[u8]) -> Case {
-    let answer = frame::read(bit_count, run, out);
+    let answer = frame::read(bit_count as usize, run, out);
     let outcome = Outcome {
         operation: READER,
         number: answer.number,
@@ -41,7 +41,7 @@ pub fn reader_case(bit_count: u32, run: &[u8], out: &[u8]) -> Case {
 }
 
 pub fn writer_case(opening: u8, closing: u8, information: &[u8], out: &[u8]) -> Case {
-    let answer = frame::write(opening, closing, information, out);
+    let answer = frame::write(usize::from(opening), usize::from(closing), information, out);
     let outcome = Outcome {
         operation: WRITER,
         number: answer.number,

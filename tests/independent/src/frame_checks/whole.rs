@@ -1,21 +1,19 @@
 //! Frames without a fault: the reader must give their information back.
 
 use super::runs::*;
-use crate::bench::{Case, Check};
+use crate::bench::{Case, Requests};
 use crate::frame;
 use crate::random::Random;
 
-pub fn checks() -> Vec<Check> {
-    vec![
-        Check::of_cases("frame reader: every length and flag count", lengths),
-        Check::of_cases("frame reader: every octet alone", single_octets),
-        Check::of_cases("frame reader: ones, zeros and flags", uniform),
-        Check::of_cases("frame reader: FCS ending with five ones", five_ones),
-        Check::of_cases("frame reader: longest frames", longest),
-        Check::of_cases("frame reader: every sufficient room", rooms),
-        Check::of_cases("frame reader: anything behind the bits", tails),
-    ]
-}
+pub const FAMILIES: [(&str, Requests); 7] = [
+    ("frame reader: every length and flag count", lengths),
+    ("frame reader: every octet alone", single_octets),
+    ("frame reader: ones, zeros and flags", uniform),
+    ("frame reader: FCS ending with five ones", five_ones),
+    ("frame reader: longest frames", longest),
+    ("frame reader: every sufficient room", rooms),
+    ("frame reader: anything behind the bits", tails),
+];
 
 fn lengths(random: &mut Random) -> Vec<Case> {
     let mut cases = Vec::new();

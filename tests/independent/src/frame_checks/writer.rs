@@ -2,24 +2,25 @@
 //! probe's reader takes what the probe's writer wrote.
 
 use super::runs::*;
-use crate::bench::{same_replies, Bench, Case, Check};
+use crate::bench::{same_replies, Bench, Case, Check, Requests};
 use crate::random::Random;
 use crate::wire::{self, Fields, Row};
 
+pub const FAMILIES: [(&str, Requests); 10] = [
+    ("frame writer: every length and flag count", lengths),
+    ("frame writer: every octet alone", single_octets),
+    ("frame writer: ones, zeros and flags", uniform),
+    ("frame writer: FCS ending with five ones", five_ones),
+    ("frame writer: longest frames", longest),
+    ("frame writer: every wrong length", wrong_lengths),
+    ("frame writer: every number of flags", flag_counts),
+    ("frame writer: pairs of flag counts", flag_count_pairs),
+    ("frame writer: every room", rooms),
+    ("frame writer: several causes at once", several_causes),
+];
+
 pub fn checks() -> Vec<Check> {
-    vec![
-        Check::of_cases("frame writer: every length and flag count", lengths),
-        Check::of_cases("frame writer: every octet alone", single_octets),
-        Check::of_cases("frame writer: ones, zeros and flags", uniform),
-        Check::of_cases("frame writer: FCS ending with five ones", five_ones),
-        Check::of_cases("frame writer: longest frames", longest),
-        Check::of_cases("frame writer: every wrong length", wrong_lengths),
-        Check::of_cases("frame writer: every number of flags", flag_counts),
-        Check::of_cases("frame writer: pairs of flag counts", flag_count_pairs),
-        Check::of_cases("frame writer: every room", rooms),
-        Check::of_cases("frame writer: several causes at once", several_causes),
-        Check::new(WRITE_THEN_READ, write_then_read),
-    ]
+    vec![Check::new(WRITE_THEN_READ, write_then_read)]
 }
 
 const WRITE_THEN_READ: &str = "frame writer, then frame reader";

@@ -3,15 +3,13 @@
 use super::causes;
 use super::layout::Layout;
 use super::requests::*;
-use crate::bench::{Case, Check};
+use crate::bench::{Case, Requests};
 use crate::random::Random;
 
-pub fn checks() -> Vec<Check> {
-    vec![
-        Check::of_cases("message reader: every room", rooms),
-        Check::of_cases("message reader: several causes at once", several),
-    ]
-}
+pub const FAMILIES: [(&str, Requests); 2] = [
+    ("message reader: every room", rooms),
+    ("message reader: several causes at once", several),
+];
 
 fn rooms(random: &mut Random) -> Vec<Case> {
     let mut cases = Vec::new();

@@ -400,7 +400,7 @@ fn with_damage(random: &mut Random, bits: u32, run: &[u8]) -> Vec<u8> {
         let mut damaged = run.to_vec();
         let place = random.below(bits as usize);
         damaged[place / 8] ^= 1 << (place % 8);
-        if frame::read(bits, &damaged, &[0; READER_ROOM]).number != 0 {
+        if frame::read(bits as usize, &damaged, &[0; READER_ROOM]).number != 0 {
             return damaged;
         }
     }

@@ -1,0 +1,235 @@
+//! What C calls: the shapes of include/kamvezhor.h and of the crate `measure`.
+#![allow(unsafe_code)]
+
+use crate::message::{Fours, Numbers, Refusal};
+use crate::station::{Lent, Phase, Settings, State};
+use crate::{frame, message, rewrite, writer};
+use core::slice::{from_raw_parts as slice, from_raw_parts_mut as slice_mut};
+
+const REFUSED: u64 = 1000;
+
+#[repr(C)]
+pub struct FrameAnswer {
+    refusal: u32,
+    count: u32,
+}
+
+#[repr(C)]
+#[derive(Default)]
+pub struct MessageAnswer {
+    refusal: u32,
+    kind: u32,
+    revision: u32,
+    codes: u32,
+    ns_at: u32,
+    ns_length: u32,
+}
+
+fn frame_answer(result: Result<usize, frame::Refusal>) -> FrameAnswer {
+    match result {
+        Ok(count) => FrameAnswer {
+            refusal: 0,
+            count: count as u32,
+        },
+        Err(refusal) => FrameAnswer {
+            refusal: refusal as u32,
+            count: 0,
+        },
+    }
+}
+
+#[no_mangle]
+pub unsafe extern "C" fn plain_read_frame(
+    run: *const u8,
+    run_size: usize,
+    bits: usize,
+    out: *mut u8,
+    out_size: usize,
+) -> FrameAnswer {
+    frame_answer(frame::read(
+        slice(run, run_size),
+        bits,
+        slice_mut(out, out_size),
+    ))
+}
+
+#[no_mangle]
+pub unsafe extern "C" fn plain_write_frame(
+    information: *const u8,
+    size: usize,
+    opening: usize,
+    closing: usize,
+    out: *mut u8,
+    out_size: usize,
+) -> FrameAnswer {
+    frame_answer(frame::write(
+        slice(information, size),
+        opening,
+        closing,
+        slice_mut(out, out_size),
+    ))
+}
+
+#[no_mangle]
+pub unsafe extern "C" fn plain_read_message(
+    message: *const u8,
+    size: usize,
+    list: *mut u8,
+    list_size: usize,
+) -> MessageAnswer {
+    let refused = |refusal| MessageAnswer {
+        refusal: refusal as u32,
+        ..MessageAnswer::default()
+    };
+    let mut fours = match Fours::new(slice_mut(list, list_size)) {
+        Some(fours) => fours,
+        None => return refused(Refusal::SmallList),
+    };
+    match message::read(slice(message, size), &mut fours) {
+        Ok(read) => MessageAnswer {
+            refusal: 0,
+            kind: read.kind.into(),
+            revision: read.revision.into(),
+            codes: fours.count() as u32,
+            ns_at: read.ns_at as u32,
+            ns_length: read.ns_length as u32,
+        },
+        Err(refusal) => refused(refusal),
+    }
+}
+
+#[no_mangle]
+pub unsafe extern "C" fn plain_measure_read(
+    message: *const u8,
+    size: usize,
+    list: *mut u32,
+    list_size: usize,
+) -> u64 {
+    let mut numbers = match Numbers::new(slice_mut(list, list_size)) {
+        Some(numbers) => numbers,
+        None => return REFUSED + Refusal::SmallList as u64,
+    };
+    match message::read(slice(message, size), &mut numbers) {
+        Ok(_) => numbers.count() as u64,
+        Err(refusal) => REFUSED + refusal as u64,
+    }
+}
+
+#[no_mangle]
+pub unsafe extern "C" fn plain_measure_write(
+    kind: u8,
+    revision: u8,
+    list: *const u32,
+    list_size: usize,
+    ns: *const u8,
+    ns_size: usize,
+    out: *mut u8,
+    out_size: usize,
+) -> u64 {
+    match writer::write(
+        kind,
+        revision,
+        slice(list, list_size),
+        slice(ns, ns_size),
+        slice_mut(out, out_size),
+    ) {
+        Ok(size) => size as u64,
+        Err(refusal) => REFUSED + refusal as u64,
+    }
+}
+
+#[no_mangle]
+pub unsafe extern "C" fn plain_measure_strike(
+    message: *const u8,
+    size: usize,
+    out: *mut u8,
+    out_size: usize,
+) -> u64 {
+    match rewrite::strike(slice(message, size), slice_mut(out, out_size)) {
+        Ok(size) => size as u64,
+        Err(refusal) => REFUSED + refusal as u64,
+    }
+}
+
+/// A field is heard in a phase, 1 ms after its entry; all that can be offered is offered.
+fn hear(
+    phase: Phase,
+    own: &[u8],
+    wishes: &[u8],
+    field: &[u8],
+    out: &mut [u8],
+    store: &mut [u8],
+) -> u64 {
+    let settings = &Settings {
+        eight: true,
+        short: true,
+        ack: true,
+    };
+    let lent = Lent {
+        settings,
+        own,
+        wishes,
+        field,
+        time: 1,
+        out,
+        store,
+    };
+    let stepped = lent.step(State { phase, entry: 0 });
+    (stepped.first + stepped.second + stepped.stored) as u64
+}
+
+#[no_mangle]
+pub unsafe extern "C" fn plain_measure_list(
+    own: *const u8,
+    own_size: usize,
+    wishes: *const u8,
+    wishes_size: usize,
+    field: *const u8,
+    field_size: usize,
+    out: *mut u8,
+    out_size: usize,
+    store: *mut u8,
+    store_size: usize,
+) -> u64 {
+    let (own, wishes, field) = (
+        slice(own, own_size),
+        slice(wishes, wishes_size),
+        slice(field, field_size),
+    );
+    hear(
+        Phase::ListsD,
+        own,
+        wishes,
+        field,
+        slice_mut(out, out_size),
+        slice_mut(store, store_size),
+    )
+}
+
+#[no_mangle]
+pub unsafe extern "C" fn plain_measure_mode(
+    own: *const u8,
+    own_size: usize,
+    wishes: *const u8,
+    wishes_size: usize,
+    field: *const u8,
+    field_size: usize,
+    out: *mut u8,
+    out_size: usize,
+    store: *mut u8,
+    store_size: usize,
+) -> u64 {
+    let (own, wishes, field) = (
+        slice(own, own_size),
+        slice(wishes, wishes_size),
+        slice(field, field_size),
+    );
+    hear(
+        Phase::AskedD,
+        own,
+        wishes,
+        field,
+        slice_mut(out, out_size),
+        slice_mut(store, store_size),
+    )
+}
