@@ -5,6 +5,7 @@ pub mod Pens
 pub mod Scanning
 pub mod Sights
 pub mod Taking
+pub mod Eight
 pub mod Progress
 pub mod Framing
 pub mod Checking

@@ -1,9 +1,9 @@
--- The reading of a content as it goes: what holds at each bit, and what is found at its end.
+-- The reading of a content as it goes: what holds at each place, and what is found at its end.
 -- Assumes nothing.
 use Prim.Native.Nat.{ℕ, zero, suc, _+_, _-_, _*_, _/_, _%_, _^_, _<_, _≤_}
 use mathlib.Core.Path.{_≡_, refl, sym, ap, _∙_}
 use mathlib.Core.Bool.{Bool, true, false}
-use mathlib.Core.List.{List, [], _∷_, _++_}
+use mathlib.Core.List.{List, [], _∷_, _++_, append-assoc, append-nil}
 use native.Mathlib.Numerals.{add-one}
 use native.Mathlib.Omega.{arith}
 use lib.ListN.{length, getD, take, drop, length-append, length-drop, drop-of-length-le}
@@ -16,8 +16,9 @@ use Rattle.octets.proofs.Packing.{take-bits-pack, length-pack}
 use Rattle.frame.specs.Limits.{mostBits, frameRoom}
 use Rattle.frame.specs.Stuffing.{flag, stuffed, unparted, parted, contentFrom}
 use Rattle.frame.specs.Pen.{Holds, Ready}
-use Rattle.frame.specs.Inner.{taken, leftBehind, keptBehind, closes, Takes, Ends, Finds}
+use Rattle.frame.specs.Inner.{taken, leftBehind, keptBehind, takens, leftsBehind, keptsBehind, NoSix, closes, Goes, Ends, Finds}
 use Rattle.frame.specs.declared.Scan.{Scan}
+use Rattle.frame.specs.declared.Way.{Way}
 use Rattle.frame.specs.declared.Found.{Found}
 use Rattle.frame.specs.declared.Found.the-variants.{Nothing, Upto}
 use Rattle.frame.proofs.Transparency.{content-is}
@@ -32,6 +33,7 @@ pub record Scanned (B : List Bool) (start : ℕ) (plain₀ plain : List ℕ) (sc
   pub goes : scan done (sc .left) (sc .kept) (drop at B) ≡ contentFrom 5 (drop start B)
   pub few : length done + start ≤ at
   pub six : sc .kept ≡ true → 6 ≤ length done + sc .left
+  pub most : sc .left ≤ 5
 
 -- the first bits put are those of the octets that they were packed into
 pub bits-put : (done : List Bool) (o : List ℕ) → take (length done) (bits (put (packed done) o)) ≡ done
@@ -59,30 +61,67 @@ six-turn d k kept true h s e = omega (arith, h refl, s e)
 six-turn d zero kept false h s e = absurd (let z : _≡_ {A = ℕ} 0 1 = cc in omega arith)
 six-turn d (suc k) kept false h s e = omega arith
 
+-- the same of bits one after the other
+takens-few : (k : ℕ) (bs : List Bool) → length (takens k bs) ≤ length bs
+unfolding takens
+takens-few k [] = omega arith
+takens-few k (b ∷ bs) = omega (arith, length-append (taken k b) (takens (leftBehind k b) bs), taken-few k b, takens-few (leftBehind k b) bs)
+
+scan-turns : (done : List Bool) (k : ℕ) (kept : Bool) (bs l : List Bool) → NoSix k bs → scan (done ++ takens k bs) (leftsBehind k bs) (keptsBehind kept k bs) l ≡ scan done k kept (bs ++ l)
+unfolding takens leftsBehind keptsBehind NoSix
+scan-turns done k kept [] l f = rw (append-nil done)
+scan-turns done k kept (b ∷ bs) l f =
+    rw (← (append-assoc done (taken k b) (takens (leftBehind k b) bs)))
+    (scan-turns (done ++ taken k b) (leftBehind k b) (keptBehind kept k b) bs l (f .1) ∙ scan-turn done k kept b (bs ++ l) (f .0))
+
+six-turns : (d k : ℕ) (kept : Bool) (bs : List Bool) → NoSix k bs → (kept ≡ true → 6 ≤ d + k) → keptsBehind kept k bs ≡ true → 6 ≤ d + length (takens k bs) + leftsBehind k bs
+unfolding takens leftsBehind keptsBehind NoSix
+six-turns d k kept [] f s e = omega (arith, s e)
+six-turns d k kept (b ∷ bs) f s e =
+    omega (
+      arith,
+      length-append (taken k b) (takens (leftBehind k b) bs),
+      six-turns (d + length (taken k b)) (leftBehind k b) (keptBehind kept k b) bs (f .1) (six-turn d k kept b (f .0) s) e,
+    )
+
+left-most : (k : ℕ) (bs : List Bool) → k ≤ 5 → leftsBehind k bs ≤ 5
+unfolding leftsBehind
+left-most k [] h = h
+left-most k (true ∷ bs) h = left-most (k - 1) bs (omega arith)
+left-most k (false ∷ bs) h = left-most 5 bs (omega arith)
+
+-- bits taken are bits of the run
+pub goes-within : {B : List Bool} {plain₀ plain₁ : List ℕ} {way₀ way₁ : Way} → Goes B plain₀ way₀ plain₁ way₁ → way₀ .at ≤ length B → way₁ .at ≤ length B
+goes-within {B} {way₀ = way₀} {way₁ = way₁} g h =
+    omega (arith, g .at, ap length (g .here), length-append (g .next) (drop (way₁ .at) B), length-drop (way₀ .at) B, length-drop (way₁ .at) B)
+
 module _ (B : List Bool) (start : ℕ) (plain₀ : List ℕ) where
+  -- the next bits
+  pub turn : {plain plain′ : List ℕ} {way way′ : Way} → Scanned B start plain₀ plain (way .scan) (way .at) → Goes B plain way plain′ way′ → Scanned B start plain₀ plain′ (way′ .scan) (way′ .at)
+  turn {way = way} {way′ = way′} now g =
+      let sc = way .scan in
+      let t = g .takes in
+      let l = length-append (now .done) (takens (sc .left) (g .next)) in
+      record {
+        done = now .done ++ takens (sc .left) (g .next);
+        holds = t .adds .adds plain₀ (now .done) (sym (now .size)) (now .holds);
+        low = t .adds .low;
+        size = t .adds .size ∙ now .size;
+        goes =
+            rw (t .left, t .kept)
+            (scan-turns (now .done) (sc .left) (sc .kept) (g .next) (drop (way′ .at) B) (g .no-six)
+            ∙ ap (scan (now .done) (sc .left) (sc .kept)) (sym (g .here)) ∙ now .goes);
+        few = omega (arith, l, takens-few (sc .left) (g .next), now .few, g .at);
+        six =
+            λ e.
+            let s = six-turns (length (now .done)) (sc .left) (sc .kept) (g .next) (g .no-six) (now .six) (sym (t .kept) ∙ e) in
+            omega (arith, t .left, l);
+        most = rw (t .left) (left-most (sc .left) (g .next) (now .most));
+      }
+
   module _ (plain : List ℕ) (sc : Scan) (at : ℕ) (now : Scanned B start plain₀ plain sc at) (h : at < length B) where
     here : drop at B ≡ getD B at false ∷ drop (at + 1) B
     here = rw (add-one at) (drop-cons B at false h)
-
-    -- one bit more
-    pub turn : (b : Bool) (plain′ : List ℕ) (sc′ : Scan) → b ≡ getD B at false → (b ≡ true → 0 < sc .left) → Takes b plain sc plain′ sc′ → Scanned B start plain₀ plain′ sc′ (at + 1)
-    turn b plain′ sc′ eb hb t =
-        record {
-          done = now .done ++ taken (sc .left) b;
-          holds = t .adds .adds plain₀ (now .done) (sym (now .size)) (now .holds);
-          low = t .adds .low;
-          size = t .adds .size ∙ now .size;
-          goes =
-              rw (t .left, t .kept)
-              (scan-turn (now .done) (sc .left) (sc .kept) b (drop (at + 1) B) hb
-              ∙ ap (λ (x : Bool). scan (now .done) (sc .left) (sc .kept) (x ∷ drop (at + 1) B)) eb
-              ∙ ap (scan (now .done) (sc .left) (sc .kept)) (sym here) ∙ now .goes);
-          few = omega (arith, length-append (now .done) (taken (sc .left) b), taken-few (sc .left) b, now .few);
-          six =
-              λ e.
-              let s = six-turn (length (now .done)) (sc .left) (sc .kept) b hb (now .six) (sym (t .kept) ∙ e) in
-              omega (arith, t .left, length-append (now .done) (taken (sc .left) b));
-        }
 
     -- at a sixth one in a row, what `scan` gives is the content
     six-is : sc .left ≡ 0 → getD B at false ≡ true
@@ -163,6 +202,7 @@ scanned-start B start plain =
       goes = scan-is (drop start B);
       few = omega arith;
       six = λ e. absurd (let z : _≡_ {A = ℕ} 0 1 = cc in omega arith);
+      most = omega arith;
     }
 
 -- as many bits as were read at most were put, so that there is room

@@ -66,13 +66,15 @@ module _ (X : List Bool) (long : 8 ≤ length X) where
           let z : _≡_ {A = ℕ} 0 1 = cc in
           omega arith)
 
+-- eight bits of a run are eight of its first bits
+pub take-eight : (s : List ℕ) (count at : ℕ) → at + 8 ≤ count → take 8 (drop at (take count (bits s))) ≡ take 8 (drop at (bits s))
+take-eight s count at h = ap (take 8) (drop-take at count (bits s)) ∙ take-take 8 (count - at) (drop at (bits s)) (omega arith)
+
 -- the test of `flag_at`: x is the octet that its eight bits make
 pub flag-seen : (s : List ℕ) (count at x : ℕ) → count ≤ length s * 8 → at + 8 ≤ count → x ≡ number (take 8 (drop at (bits s)))
     → eqb x 126 ≡ starts flag (drop at (take count (bits s)))
 flag-seen s count at x hc h e =
-    let t : take 8 (drop at (take count (bits s))) ≡ take 8 (drop at (bits s)) =
-    ap (take 8) (drop-take at count (bits s)) ∙ take-take 8 (count - at) (drop at (bits s)) (omega arith) in
-    ap (λ (m : ℕ). eqb m 126) (e ∙ ap number (sym t))
+    ap (λ (m : ℕ). eqb m 126) (e ∙ ap number (sym (take-eight s count at h)))
     ∙ by-octet (drop at (take count (bits s))) (omega (arith, length-drop at (take count (bits s)), length-run s count hc))
 
 pub flag-unseen : (s : List ℕ) (count at : ℕ) → count ≤ length s * 8 → count - at < 8 → false ≡ starts flag (drop at (take count (bits s)))

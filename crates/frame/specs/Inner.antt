@@ -1,9 +1,9 @@
--- What the inner functions of reader and writer give: stuffed bits put, one bit of a content taken, a content or a frame found.
+-- What the inner functions of reader and writer give: stuffed bits put, bits of a content taken, a content or a frame found.
 -- Inner: no public contract cites it.
 -- Assumes nothing.
-use Prim.Native.Nat.{ℕ, zero, suc, _-_, _≤_}
+use Prim.Native.Nat.{ℕ, zero, suc, _+_, _-_, _<_, _≤_}
 use mathlib.Core.Bool.{Bool, true, false}
-use mathlib.Core.List.{List, [], _∷_}
+use mathlib.Core.List.{List, [], _∷_, _++_}
 use mathlib.Core.Path.{_≡_}
 use lib.ListN.{length, take, drop}
 use Rattle.octets.specs.Bits.{bits, packed}
@@ -14,8 +14,16 @@ use Rattle.frame.specs.Stuffing.{stuffed, Parts, unparted, parted}
 use Rattle.frame.specs.Pen.{Holds, Adds, leftAfter}
 use Rattle.frame.specs.declared.Ink.{Ink}
 use Rattle.frame.specs.declared.Scan.{Scan}
+use Rattle.frame.specs.declared.Way.{Way}
 use Rattle.frame.specs.declared.Found.{Found}
 use Rattle.frame.specs.declared.Found.the-variants.{Nothing, Upto}
+
+-- the bits are sent with no zero put in. k ones may still come before the one that a zero follows
+unfoldable pub calm : ℕ → List Bool → Bool
+calm k [] = true
+calm k (false ∷ bs) = calm 4 bs
+calm zero (true ∷ bs) = false
+calm (suc k) (true ∷ bs) = calm k bs
 
 -- the bits bs were put with the zeros that they need
 pub record Inks (bs : List Bool) (out₀ : List ℕ) (ink₀ : Ink) (out₁ : List ℕ) (ink₁ : Ink) : Type 0 where
@@ -39,11 +47,38 @@ keptBehind kept k true = kept
 keptBehind kept zero false = false
 keptBehind kept (suc k) false = true
 
--- one bit was taken
-pub record Takes (b : Bool) (plain₀ : List ℕ) (scan₀ : Scan) (plain₁ : List ℕ) (scan₁ : Scan) : Type 0 where
-  pub adds : Adds (taken (scan₀ .left) b) plain₀ (scan₀ .pen) plain₁ (scan₁ .pen)
-  pub left : scan₁ .left ≡ leftBehind (scan₀ .left) b
-  pub kept : scan₁ .kept ≡ keptBehind (scan₀ .kept) (scan₀ .left) b
+-- the same of bits one after the other
+unfoldable pub takens : ℕ → List Bool → List Bool
+takens k [] = []
+takens k (b ∷ bs) = taken k b ++ takens (leftBehind k b) bs
+
+unfoldable pub leftsBehind : ℕ → List Bool → ℕ
+leftsBehind k [] = k
+leftsBehind k (b ∷ bs) = leftsBehind (leftBehind k b) bs
+
+unfoldable pub keptsBehind : Bool → ℕ → List Bool → Bool
+keptsBehind kept k [] = kept
+keptsBehind kept k (b ∷ bs) = keptsBehind (keptBehind kept k b) (leftBehind k b) bs
+
+-- no sixth one is among them
+unfoldable pub NoSix : ℕ → List Bool → Type 0
+NoSix k [] = Unit {0}
+NoSix k (b ∷ bs) = (b ≡ true → 0 < k) × NoSix (leftBehind k b) bs
+
+-- the bits bs were taken
+pub record Takes (bs : List Bool) (plain₀ : List ℕ) (scan₀ : Scan) (plain₁ : List ℕ) (scan₁ : Scan) : Type 0 where
+  pub adds : Adds (takens (scan₀ .left) bs) plain₀ (scan₀ .pen) plain₁ (scan₁ .pen)
+  pub left : scan₁ .left ≡ leftsBehind (scan₀ .left) bs
+  pub kept : scan₁ .kept ≡ keptsBehind (scan₀ .kept) (scan₀ .left) bs
+
+-- the next bits of B were taken, one at least
+pub record Goes (B : List Bool) (plain₀ : List ℕ) (way₀ : Way) (plain₁ : List ℕ) (way₁ : Way) : Type 0 where
+  pub next : List Bool
+  pub here : drop (way₀ .at) B ≡ next ++ drop (way₁ .at) B
+  pub at : way₁ .at ≡ way₀ .at + length next
+  pub some : 0 < length next
+  pub no-six : NoSix (way₀ .scan .left) next
+  pub takes : Takes next plain₀ (way₀ .scan) plain₁ (way₁ .scan)
 
 -- six ones and the zero before them close the content, where that zero stands in it and a zero follows
 abbrev pub closes : Bool → List Bool → Bool

@@ -2,7 +2,8 @@
 ghost use mathlib.Core.Path.{_≡_};
 ghost use mathlib.Core.Bool.{Bool, true, false};
 ghost use mathlib.Core.List.{List, [], _∷_};
-ghost use Prim.Native.Nat.{ℕ, _+_, _*_, _^_, _≤_, _<_};
+ghost use Prim.Native.Nat.{ℕ, _+_, _-_, _*_, _^_, _≤_, _<_};
+ghost use lib.Count.{leadingZeros};
 ghost use lib.ListN.{length, getD, take, drop};
 ghost use Rattle.octets.specs.Bits.{bits, number, octBefore, packed};
 ghost use Rattle.octets.specs.Lay.{put};
@@ -11,8 +12,8 @@ ghost use Rattle.frame.specs.Stuffing.{flag, starts, stuffed, contentFro
 ghost use Rattle.frame.specs.Frame.{flags, flagsAt, content, frame, framed};
 ghost use Rattle.frame.specs.Reader.{checked, alone, readFrame, Reads};
 ghost use Rattle.frame.specs.Writer.{writeFrame, Writes};
-ghost use Rattle.frame.specs.Pen.{lowBits, Holds, Ready, Adds, leftAfter};
-ghost use Rattle.frame.specs.Inner.{Inks, Takes, Ends, Finds};
+ghost use Rattle.frame.specs.Pen.{lowBits, Holds, Ready, Adds};
+ghost use Rattle.frame.specs.Inner.{calm, Inks, Takes, Goes, Ends, Finds};
 ghost use Rattle.frame.specs.Limits.{mostInformation, mostBits, informationRoom, frameRoom, mostOpening, mostClosing};
 use fcs::fcs_of;
 use octets::bit_at;
@@ -145,8 +146,45 @@ fn put_stuffed(out: &mut [u8], ink: Ink, one: bool) -> Ink
     Ink { pen: next, left: 4 }
 }
 
-// Puts the bits of an octet, with the zeros that they need.
+// Whether an octet has no five ones in a row, and begins with at most so many.
+fn is_calm(octet: u8, most: usize) -> bool
+    requires { ⌜ most ≤ 4 ⌝ }
+    ensures { λ r. ⌜ r ≡ calm most (octBefore octet []) ⌝ }
+{
+    let two = octet & (octet >> 1);
+    let four = two & (two >> 2);
+    if four & (octet >> 4) != 0 {
+        return false;
+    }
+    (u8::trailing_zeros(255 - octet) as usize) <= most
+}
+
+// How many ones an octet ends with.
+fn last_ones(octet: u8) -> usize
+    ensures { λ r. ⌜ r ≡ leadingZeros 8 (255 - octet) ⌝ }
+{
+    u8::leading_zeros(255 - octet) as usize
+}
+
+// Puts the bits of an octet, with the zeros that they need. Where they need none they are put at once.
 fn put_octet(out: &mut [u8], start: Ink, octet: u8) -> Ink
+    requires { ⌜ (start .left ≤ 4) × Ready (now out) (start .pen) (length (stuffed (start .left) (octBefore octet []))) ⌝ }
+    ensures { λ r. ⌜ Inks (octBefore octet []) (now (out .entry)) start (now (out .exit)) r ⌝ }
+{
+    let pen = start.pen;
+    let left = start.left;
+    if is_calm(octet, left) {
+        let next = put_bits(out, pen, octet, 8);
+        return Ink {
+            pen: next,
+            left: 4 - last_ones(octet),
+        };
+    }
+    put_singly(out, start, octet)
+}
+
+// Puts the bits of an octet one by one, with the zeros that they need.
+fn put_singly(out: &mut [u8], start: Ink, octet: u8) -> Ink
     requires { ⌜ (start .left ≤ 4) × Ready (now out) (start .pen) (length (stuffed (start .left) (octBefore octet []))) ⌝ }
     ensures { λ r. ⌜ Inks (octBefore octet []) (now (out .entry)) start (now (out .exit)) r ⌝ }
 {
@@ -279,7 +317,7 @@ pub struct Scan {
 // Takes one bit of the content: the zero after five ones is left out.
 fn take_bit(plain: &mut [u8], scan: Scan, one: bool) -> Scan
     requires { ⌜ (one ≡ true → 0 < scan .left) × Ready (now plain) (scan .pen) 1 ⌝ }
-    ensures { λ r. ⌜ Takes one (now (plain .entry)) scan (now (plain .exit)) r ⌝ }
+    ensures { λ r. ⌜ Takes (one ∷ []) (now (plain .entry)) scan (now (plain .exit)) r ⌝ }
 {
     let pen = scan.pen;
     let left = scan.left;
@@ -332,26 +370,120 @@ fn end_content(run: &[u8], count: usize, at: usize, plain: &mut [u8], scan: Scan
     }
 }
 
+// Takes eight bits of the content at once, where none of them is an inserted zero.
+fn take_octet(plain: &mut [u8], scan: Scan, octet: u8) -> Scan
+    requires { ⌜ (0 < scan .left) × (scan .left ≤ 5) × (calm (scan .left - 1) (octBefore octet []) ≡ true) × Ready (now plain) (scan .pen) 8 ⌝ }
+    ensures { λ r. ⌜ Takes (octBefore octet []) (now (plain .entry)) scan (now (plain .exit)) r ⌝ }
+{
+    let pen = scan.pen;
+    let next = put_bits(plain, pen, octet, 8);
+    Scan {
+        pen: next,
+        left: 5 - last_ones(octet),
+        kept: true,
+    }
+}
+
+// How far reading has come, and the place from which on eight bits are tried at once.
+pub struct Way {
+    pub scan: Scan,
+    pub at: usize,
+    pub again: usize,
+}
+
+// Whether eight bits are tried at once here: it is time to, there are as many, and the next one is no inserted zero.
+fn is_due(count: usize, way: Way) -> bool
+    requires { ⌜ way .at ≤ count ⌝ }
+    ensures { λ r. ⌜ (r ≡ true → (way .at + 8 ≤ count) × (0 < way .scan .left)) ⌝ }
+{
+    let scan = way.scan;
+    let at = way.at;
+    if at < way.again {
+        return false;
+    }
+    if count - at < 8 {
+        return false;
+    }
+    0 < scan.left
+}
+
+// Where one bit is taken: the place from which on eight are tried at once again. Eight bits that are not calm are taken one by one,
+// up to the inserted zero among them.
+fn next_try(way: Way) -> usize
+    requires { ⌜ way .at ≤ mostBits ⌝ }
+{
+    let scan = way.scan;
+    let at = way.at;
+    if scan.left == 0 {
+        return 0;
+    }
+    if way.again <= at {
+        return at + 8;
+    }
+    way.again
+}
+
+// Takes one bit.
+fn take_one(run: &[u8], count: usize, plain: &mut [u8], way: Way) -> Way
+    requires { ⌜ (count ≤ length (now run) * 8) × (count ≤ mostBits) × (way .at < count) × (way .scan .left ≡ 0 → getD (bits (now run)) (way .at) false ≡ false) × Ready (now plain) (way .scan .pen) 1 ⌝ }
+    ensures { λ r. ⌜ Goes (take count (bits (now (run .entry)))) (now (plain .entry)) way (now (plain .exit)) r ⌝ }
+{
+    let scan = way.scan;
+    let at = way.at;
+    let next = take_bit(plain, scan, is_one(bit_at(run, at)));
+    let again = next_try(way);
+    Way {
+        scan: next,
+        at: at + 1,
+        again,
+    }
+}
+
+// Takes the next eight bits at once, or the next one.
+fn take_next(run: &[u8], count: usize, plain: &mut [u8], way: Way) -> Way
+    requires { ⌜ (count ≤ length (now run) * 8) × (count ≤ mostBits) × (way .at < count) × (way .scan .left ≤ 5) × (way .scan .left ≡ 0 → getD (bits (now run)) (way .at) false ≡ false) × Ready (now plain) (way .scan .pen) (count - way .at) ⌝ }
+    ensures { λ r. ⌜ Goes (take count (bits (now (run .entry)))) (now (plain .entry)) way (now (plain .exit)) r ⌝ }
+{
+    let scan = way.scan;
+    let at = way.at;
+    if is_due(count, way) {
+        let octet = octet_at(run, at);
+        if is_calm(octet, scan.left - 1) {
+            let next = take_octet(plain, scan, octet);
+            return Way {
+                scan: next,
+                at: at + 8,
+                again: 0,
+            };
+        }
+    }
+    take_one(run, count, plain, way)
+}
+
 // Reads the content from a place of the first count bits of a run, without its inserted zeros, up to the closing flag.
 fn read_content(run: &[u8], count: usize, start: usize, plain: &mut [u8]) -> Found
     requires { ⌜ (count ≤ length (now run) * 8) × (count ≤ mostBits) × (start ≤ count) × (length (now plain) ≡ frameRoom) ⌝ }
     ensures { λ r. ⌜ Finds (contentFrom 5 (drop start (take count (bits (now (run .entry)))))) (take count (bits (now (run .entry)))) count (now (plain .exit)) r ⌝ }
 {
-    let mut scan = Scan {
+    let first = Scan {
         pen: Pen { at: 0, octet: 0 },
         left: 5,
         kept: false,
     };
-    let mut at = start;
-    while at < count {
-        let one = is_one(bit_at(run, at));
-        if one {
-            if scan.left == 0 {
+    let mut way = Way {
+        scan: first,
+        at: start,
+        again: 0,
+    };
+    while way.at < count {
+        let scan = way.scan;
+        let at = way.at;
+        if scan.left == 0 {
+            if is_one(bit_at(run, at)) {
                 return end_content(run, count, at, plain, scan);
             }
         }
-        scan = take_bit(plain, scan, one);
-        at += 1;
+        way = take_next(run, count, plain, way);
     }
     Found::Nothing
 }

@@ -1,54 +1,65 @@
--- `frame::put_octet` meets its contract. The loop's invariant: all but the k lowest bits of what is left of the octet were put (`Inked`).
--- Assumes nothing.
+-- `frame::put_octet` meets its contract: a calm octet is put as it is (`eight-inks`), another one bit by bit. Assumes nothing.
+use mathlib.Core.Bool.{true}
 use mathlib.Core.List.{[]}
-use mathlib.Core.Path.{_≡_}
+use mathlib.Core.Path.{_≡_, sym, _∙_}
 use native.Mathlib.Omega.{arith}
+use borrow.Author.Needs.{needs}
 use Rattle.octets.specs.Bits.{octBefore}
-use Rattle.frame.specs.Pen.{lowBits}
-use Rattle.frame.proofs.Zeros.{lowBits-octet, lowBits-next, Inked, inked-none, inked-front, inked-turn, inked-end}
+use Rattle.frame.specs.Inner.{calm}
+use Rattle.frame.proofs.Eight.{calm-ended, eight-ready, eight-inks}
 use Rattle.frame.proofs.put_octet.Statement.{statement}
 use Rattle.frame.proofs.put_octet.Tie as tie
 
-abbrev Inv-loop : tie.InvT-loop
-Inv-loop out₀ octet ink₀ rest₀ k₀ out ink rest k = Inked (octBefore octet []) (lowBits k rest) out₀ ink₀ out ink
+-- the octet is calm
+steady : (c : tie.Then1) → let a = c .before .before .before .before .args in calm (a .start .left) (octBefore (a .octet) []) ≡ true
+steady c = sym (c .before .is-calm .ensures) ∙ c .if1 .taken
 
-abbrev μ-loop : tie.MeasureT-loop
-μ-loop out₀ octet ink₀ rest₀ k₀ out ink rest k = k
+is-calm-requires : tie.Need-is-calm-requires
+is-calm-requires c κs = search needs
 
-loop-holds : tie.Need-loop-holds Inv-loop μ-loop
-loop-holds c = let s = c .before in
-    rw (lowBits-octet (s .args .octet)) (inked-none (octBefore (s .args .octet) []) (s .args .out .now) (s .args .start) (s .pre))
+put-bits-requires : tie.Need-put-bits-requires
+put-bits-requires c κs =
+    let st = c .before .before .before .before .before in
+    (omega arith, omega arith, eight-ready (st .args .octet) (omega arith) (st .args .start .left) (steady (c .before)) (st .pre .1))
 
-put-stuffed-requires : tie.Need-put-stuffed-requires Inv-loop μ-loop
-put-stuffed-requires c κs = let l = c .before .before .loop in inked-front (lowBits-next (l .k) (l .rest) (c .before .loop-test .taken)) (l .inv)
+last-ones-requires : tie.Need-last-ones-requires
+last-ones-requires c κs = search needs
 
-sub-k : tie.Need-sub-k Inv-loop μ-loop
-sub-k c = omega arith
+sub-t11 : tie.Need-sub-t11
+sub-t11 c =
+    let t1 = c .before .before .before .before .before in
+    let st = t1 .before .before .before .before in
+    omega (arith, c .last-ones .ensures, calm-ended (st .args .start .left) (st .args .octet) (st .pre .0) (omega arith) (steady t1))
 
-loop-less : tie.Need-loop-less Inv-loop μ-loop
-loop-less c = omega arith
+same-length : tie.Need-same-length
+same-length c = search needs
 
-loop-again : tie.Need-loop-again Inv-loop μ-loop
-loop-again c = let p = c .before .before in let i = p .before .before in let l = i .before .loop in
-    inked-turn (lowBits-next (l .k) (l .rest) (i .loop-test .taken)) (l .inv) (p .put-stuffed .ensures)
+returns : tie.Need-returns
+returns c =
+    let pb = c .before .before .before in
+    let t1 = pb .before .before in
+    let st = t1 .before .before .before .before in
+    eight-inks (st .args .octet) (omega arith) (c .last-ones .result) (st .pre .0) (steady t1) (c .last-ones .ensures) (pb .put-bits .ensures)
 
-same-length : tie.Need-same-length Inv-loop μ-loop
-same-length c = c .before .loop .inv .inks .adds .size
+put-singly-requires : tie.Need-put-singly-requires
+put-singly-requires c κs = search needs
 
-returns : tie.Need-returns Inv-loop μ-loop
-unfolding lowBits
-returns c = let e : c .before .loop .k ≡ 0 = omega arith in inked-end (rw e at (c .before .loop .inv))
+same-length-2 : tie.Need-same-length-2
+same-length-2 c = search needs
+
+returns-2 : tie.Need-returns-2
+returns-2 c = search needs
 
 pub put-octet-spec : {M : Type 1} → statement M
 put-octet-spec =
     tie.close
     (tie.spec
-    Inv-loop
-    μ-loop
-    loop-holds
-    put-stuffed-requires
-    sub-k
-    loop-less
-    loop-again
+    is-calm-requires
+    put-bits-requires
+    last-ones-requires
+    sub-t11
     same-length
-    returns)
+    returns
+    put-singly-requires
+    same-length-2
+    returns-2)
