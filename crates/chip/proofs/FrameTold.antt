@@ -13,7 +13,7 @@ use Rattle.frame.specs.Reader.{Reading, refused, information, readFrame, Reply,
 use Rattle.frame.specs.Writer.{Writing, declinedIf, writeFrame, writeTold, writeReply, Writes}
 use Rattle.frame.specs.declared.FrameRead.{FrameRead}
 use Rattle.frame.specs.declared.FrameWritten.{FrameWritten}
-use Rattle.frame.proofs.Exact.{accepted-is-frame}
+use Rattle.exact.proofs.Exact.{accepted-is-frame}
 use Rattle.frame.proofs.Zeros.{frame-length}
 use Rattle.chip.specs.Answers.{frameAnswer, ReadsFrame, WritesFrame}
 use Rattle.chip.specs.declared.FrameAnswer.{FrameAnswer}

@@ -18,8 +18,8 @@ use Rattle.frame.specs.Writer.{writeFrame}
 use Rattle.frame.specs.Writer as frameWriter
 use Rattle.frame.specs.declared.FrameRead.{FrameRead}
 use Rattle.frame.specs.declared.FrameWritten.{FrameWritten}
-use Rattle.frame.proofs.ReaderUnique as frameReading
-use Rattle.frame.proofs.WriterUnique as frameWriting
+use Rattle.exact.proofs.ReaderUnique as frameReading
+use Rattle.exact.proofs.WriterUnique as frameWriting
 use Rattle.tree.specs.Fields.{codesIn, fours}
 use Rattle.tree.specs.declared.Field.{Field}
 use Rattle.message.specs.Check.{checkTold, checkMessage}

@@ -16,7 +16,7 @@ use Rattle.frame.specs.Exact.{IsFrame}
 use Rattle.frame.specs.Reader.{information, readFrame}
 use Rattle.frame.specs.Writer.{writeFrame}
 use Rattle.frame.specs.Writer as frameWriter
-use Rattle.frame.proofs.Exact as exact
+use Rattle.exact.proofs.Exact as exact
 use Rattle.tree.specs.Codes.{fieldBase, fieldCodes}
 use Rattle.tree.specs.declared.Form.the-variants.{Fine}
 use Rattle.message.specs.Kinds.{known, typeOf, revisionOf}

@@ -21,7 +21,7 @@ use Rattle.frame.specs.Writer.{writeFrame}
 use Rattle.frame.specs.Writer as frameWriter
 use Rattle.frame.specs.declared.FrameRead.{FrameRead}
 use Rattle.frame.specs.declared.FrameWritten.{FrameWritten}
-use Rattle.frame.proofs.Exact as frames
+use Rattle.exact.proofs.Exact as frames
 use Rattle.message.specs.Kinds.{known, typeOf, revisionOf}
 use Rattle.message.specs.Reader.{listRoom, messageCodes, hasNs, tailAt, accepted, readMessage, nsTold}
 use Rattle.message.specs.Reader as messageReader

@@ -7,7 +7,7 @@ use mathlib.Core.Path.{_≡_}
 use lib.ListN.{length}
 use Rattle.octets.specs.Bits.{bits}
 use Rattle.frame.specs.Stuffing.{stuffed}
-use Rattle.frame.proofs.Vectors.{ff-ff}
+use Rattle.exact.proofs.Vectors.{ff-ff}
 use Rattle.tree.specs.Codes.{codeOf}
 use Rattle.tree.proofs.Vectors.{code-of, nothingSet}
 use Rattle.message.specs.Kinds.{typeOf, revisionOf}

@@ -9,8 +9,3 @@ pub mod Eight
 pub mod Progress
 pub mod Framing
 pub mod Checking
-pub mod Exact
-pub mod LastZero
-pub mod ReaderUnique
-pub mod WriterUnique
-pub mod Vectors

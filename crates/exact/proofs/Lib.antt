@@ -1,0 +1,5 @@
+pub mod Exact
+pub mod LastZero
+pub mod ReaderUnique
+pub mod WriterUnique
+pub mod Vectors
