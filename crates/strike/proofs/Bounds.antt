@@ -226,3 +226,11 @@ good-short t o h =
     let T = treeAt t 0 in
     let good = tree-good t (omega (arith, g .short)) 0 in
     omega (arith, tree-fits (fieldBase 2) T (omega arith) good (rw (tree-codes (fieldBase 2) t 0) (g .standard)), room-s, ap length (good-tree t o g))
+
+-- so what is longer is not good
+pub longer-bad : (t : List ℕ) → AreOctets t → 28 < length t → goodField t ≡ false
+longer-bad t o h = go (goodField t) refl
+  where
+    go : (b : Bool) → goodField t ≡ b → goodField t ≡ false
+    go true e = absurd (omega (arith, good-short t o e, h))
+    go false e = e

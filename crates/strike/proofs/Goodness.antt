@@ -5,7 +5,7 @@ use mathlib.Core.Bool.{Bool, true, false}
 use mathlib.Core.List.{List, [], _∷_, _++_, append-nil}
 use mathlib.Core.Path.{_≡_, refl, sym, ap, _∙_}
 use native.Mathlib.Omega.{arith}
-use borrow.Author.Tests.{leb-true, le-leb, lt-leb, eqb-true, eq-eqb, le-ltb}
+use borrow.Author.Tests.{leb-true, le-leb, eqb-true, eq-eqb, le-ltb}
 use lib.Dec.{leb, eqb}
 use lib.ListN.{length, take, drop, length-append, length-drop, drop-of-length-le}
 use lib.Seq.{take-at}
@@ -28,7 +28,8 @@ use Rattle.writer.proofs.Trees.{treeOctets}
 use Rattle.names.specs.Named.{standardCode}
 use Rattle.names.specs.Masks.{only}
 use Rattle.names.specs.declared.Keep.the-variants.{Standard}
-use Rattle.strike.specs.Rewriting.{kept, rewritten, Rewrites}
+use Rattle.strike.specs.Inner.{Lays}
+use Rattle.strike.specs.Rewriting.{kept, rewritten}
 use Rattle.strike.specs.Good.{mostStandard, allStandard, goodField, same}
 use Rattle.strike.proofs.Crossing.{kept-means}
 use Rattle.strike.proofs.Sameness.{same-self, same-equal}
@@ -87,10 +88,6 @@ unfolding goodField fieldForm blockForm
 none-bad [] h = refl
 none-bad (o ∷ t) h = absurd (omega arith)
 
-pub long-bad : (t : List ℕ) → mostStandard < length t → goodField t ≡ false
-unfolding goodField
-long-bad t h = rw (lt-leb (length t) mostStandard h)
-
 -- ---- a field that is left as it is
 
 -- rewritten with the named standard parameters
@@ -148,14 +145,13 @@ good-known t o some short = go (goodField t) refl (same t (standardForm t)) refl
     go false e true f = sym e ∙ stays-good t some short (sym (same-equal t (standardForm t) f))
     go false e false f = refl
 
--- and so it is known by what rewriting it into 64 octets leaves there
-pub good-found : {t out₀ out₁ : List ℕ} {n : ℕ} → AreOctets t → 0 < length t → length t ≤ mostStandard → length out₀ ≡ 64 → Rewrites Standard fields.Standard t 0 out₀ n out₁
+-- and so it is known by what rewriting it leaves in an output with room for it
+pub good-found : (t : List ℕ) {out₀ out₁ : List ℕ} {n : ℕ} → AreOctets t → 0 < length t → length t ≤ mostStandard → Lays (standardForm t) out₀ n out₁
     → (n ≤ length out₁) × (same t (take (n - 0) out₁) ≡ goodField t)
 unfolding put
-good-found {t} {out₀} {out₁} {n} o some short room r =
+good-found t {out₀} {out₁} {n} o some short r =
     let os = standardForm t in
-    let count : n ≡ length os = rw room at (r .count) in
-    let output : out₁ ≡ os ++ drop (length os) out₀ = rw room at (r .output) in (
-      omega (arith, count, length-append os (drop (length os) out₀), ap length output),
-      rw (output, take-at os (drop (length os) out₀) (n - 0) (omega arith)) (sym (good-known t o some short)),
+    let output : out₁ ≡ os ++ drop (length os) out₀ = r .output in (
+      omega (arith, r .count, length-append os (drop (length os) out₀), ap length output),
+      rw (output, take-at os (drop (length os) out₀) (n - 0) (omega (arith, r .count))) (sym (good-known t o some short)),
     )

@@ -8,6 +8,7 @@ use mathlib.Core.Path.{_≡_}
 use lib.Dec.{eqb}
 use lib.ListN.{length}
 use lib.Seq.{sets}
+use Rattle.octets.specs.Lay.{put}
 use Rattle.octets.specs.Places.{pick}
 use Rattle.tree.specs.Block.{numbers, behind, ended}
 use Rattle.tree.specs.Codes.{groupBehind}
@@ -72,3 +73,8 @@ pub record Puts (octets : List ℕ) (from : ℕ) (out₀ : List ℕ) (to : ℕ) 
   pub read : r .from ≡ from
   pub at : r .to ≡ to + length octets
   pub out : out₁ ≡ sets out₀ to octets
+
+-- octets were put at the front of the output, so many
+pub record Lays (octets out₀ : List ℕ) (n : ℕ) (out₁ : List ℕ) : Type 0 where
+  pub count : n ≡ length octets
+  pub output : out₁ ≡ put octets out₀

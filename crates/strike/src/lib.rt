@@ -10,15 +10,16 @@ ghost use Rattle.octets.specs.Lay.{put};
 ghost use Rattle.octets.specs.Places.{pick};
 ghost use Rattle.tree.specs.Block.{setBits, numbers, behind};
 ghost use Rattle.tree.specs.Codes.{groupBehind, parsBehind, subsBehind, fieldBehind};
-ghost use Rattle.tree.specs.Fields.{baseOf};
+ghost use Rattle.tree.specs.Form.{isFine};
+ghost use Rattle.tree.specs.Fields.{baseOf, formIn};
 ghost use Rattle.message.specs.Kinds.{hasFields, typeOf};
 ghost use Rattle.message.specs.Reader.{mostOctets, listRoom, standardAt, tailAt, readMessage, accepted};
 ghost use Rattle.writer.specs.Writer.{isEmpty};
 ghost use Rattle.names.specs.Masks.{keptPlace, only};
-ghost use Rattle.strike.specs.Rewriting.{Rewrites};
+ghost use Rattle.strike.specs.Rewriting.{rewritten, Rewrites};
 ghost use Rattle.strike.specs.Striking.{struckForm, Strikes};
 ghost use Rattle.strike.specs.Good.{goodField, same};
-ghost use Rattle.strike.specs.Inner.{sieved, blockKept, subKept, subsKept, lowerKept, groupKept, wholePar, parKept, parsKept, fieldKept, standardKeep, Puts};
+ghost use Rattle.strike.specs.Inner.{sieved, blockKept, subKept, subsKept, lowerKept, groupKept, wholePar, parKept, parsKept, fieldKept, standardKeep, Puts, Lays};
 use message::MessageCheck;
 use message::check_message;
 use names::Keep;
@@ -36,8 +37,8 @@ use tree::is_fine;
 // The octets of the longest message.
 const MOST_OCTETS: usize = 64;
 
-// The octets of the longest standard field that fits an MS.
-const MOST_STANDARD: usize = 61;
+// The octets of the longest standard field that is good. Document 01 allows 61, but there are not so many named parameters.
+const MOST_GOOD: usize = 28;
 
 // How far reading and writing have come.
 pub struct Spot {
@@ -363,6 +364,21 @@ fn put_field(s: &[u8], at: usize, field: Field, keep: Keep, out: &mut [u8], to: 
     put_pars(s, keep, base, spars, from, second, out)
 }
 
+// Rewrites the field at a place with what is kept of it, in minimal form, where there is room for that, and gives how many octets that
+// are: none where the field is not well-formed.
+fn rewrite_into(s: &[u8], at: usize, field: Field, keep: Keep, out: &mut [u8]) -> usize
+    requires { ⌜ (isFine (formIn (now s) at) ≡ true → length (fieldKept keep (baseOf field) (now s) at) ≤ length (now out)) ⌝ }
+    ensures { λ r. ⌜ Lays (rewritten keep field (now (s .entry)) at mostOctets) (now (out .entry)) r (now (out .exit)) ⌝ }
+{
+    let reach = field_form(s, at);
+    let form = reach.form;
+    if !is_fine(form) {
+        return 0;
+    }
+    let end = put_field(s, at, field, keep, out, 0);
+    end.to
+}
+
 // Rewrites the field at a place with what is kept of it, in minimal form, and gives how many octets that are: none where the field is
 // not well-formed or the output has under 64 octets.
 pub fn rewrite_field(s: &[u8], at: usize, field: Field, keep: Keep, out: &mut [u8]) -> usize
@@ -371,13 +387,7 @@ pub fn rewrite_field(s: &[u8], at: usize, field: Field, keep: Keep, out: &mut [u
     if out.len() < MOST_OCTETS {
         return 0;
     }
-    let reach = field_form(s, at);
-    let form = reach.form;
-    if !is_fine(form) {
-        return 0;
-    }
-    let end = put_field(s, at, field, keep, out, 0);
-    end.to
+    rewrite_into(s, at, field, keep, out)
 }
 
 // What is kept of the standard field of a message of a type: all of an MS, else the named.
@@ -459,13 +469,13 @@ fn are_same(a: &[u8], b: &[u8]) -> bool
 pub fn is_good(t: &[u8]) -> bool
     ensures { λ r. ⌜ r ≡ goodField (now (t .entry)) ⌝ }
 {
-    if MOST_STANDARD < t.len() {
+    if MOST_GOOD < t.len() {
         return false;
     }
     if t.len() == 0 {
         return false;
     }
-    let mut octets = [0u8; 64];
-    let count = rewrite_field(t, 0, Field::Standard, Keep::Standard, &mut octets);
+    let mut octets = [0u8; 28];
+    let count = rewrite_into(t, 0, Field::Standard, Keep::Standard, &mut octets);
     are_same(t, &octets[0..count])
 }
