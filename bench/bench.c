@@ -225,7 +225,9 @@ static void frame_it(struct input *in)
     memcpy(in->octets, third.out, in->size);
 }
 
-/* A frame of information: such octets everywhere, or random ones. */
+static uint8_t sixteen[16];
+
+/* A frame of information: such octets everywhere, or random ones, the same sixteen over and over so that sizes can be compared. */
 static void make_information(struct input *in, const char *name, size_t size, int octet)
 {
     memset(in, 0, sizeof *in);
@@ -236,7 +238,7 @@ static void make_information(struct input *in, const char *name, size_t size, in
     in->closing = 1;
     in->room = KAMVEZHOR_FRAME_ROOM;
     for (size_t i = 0; i < size; i++)
-        in->octets[i] = (uint8_t)(octet < 0 ? (int)random_below(256) : octet);
+        in->octets[i] = octet < 0 ? sixteen[i % sizeof sixteen] : (uint8_t)octet;
 }
 
 static void finish_message(struct input *in, uint8_t first)
@@ -349,6 +351,8 @@ static void make_measurements(void)
 {
     static const size_t frames[] = {1, 8, 16, 32, 64};
     static const size_t messages[] = {16, 32, 64};
+    for (size_t i = 0; i < sizeof sixteen; i++)
+        sixteen[i] = (uint8_t)random_below(256);
     for (int operation = FRAME_READER; operation <= FRAME_WRITER; operation++) {
         for (size_t i = 0; i <= 5; i++) {
             struct input *in = add(operation);

@@ -84,7 +84,7 @@ END {
     printf "\nBoth gave the same answers and the same octets in every buffer on the %d measured inputs and on %s changed ones, of which %s sent or stored nothing.\n", inputs, grouped(changed), grouped(refused)
 
     print "\n## Frames\n"
-    print "The information's octets are random-looking, or all ones; 2 opening flags and 1 closing one.\n"
+    print "The information's octets are random-looking, the same sixteen over and over, or all ones; 2 opening flags and 1 closing one.\n"
     print "| operation | octets | bits | ours | plain | ours / plain | ours a bit | plain a bit | spandsp | ours / spandsp |"
     print "|---|---|---|---|---|---|---|---|---|---|"
     for (i = 1; i <= count; i++)
