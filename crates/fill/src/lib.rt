@@ -38,7 +38,7 @@ fn put_four(list: &mut [u8], i: usize, c: u32)
     requires { ⌜ i ≤ 4000000 ⌝ }
     ensures { λ _. ⌜ now (list .exit) ≡ sets (now (list .entry)) i (fours (c ∷ [])) ⌝ }
 {
-    if i + 3 < list.len() {
+    if i + 4 <= list.len() {
         list[i] = (c % 256) as u8;
         list[i + 1] = (c / 256 % 256) as u8;
         list[i + 2] = (c / 65536 % 256) as u8;

@@ -42,7 +42,7 @@ add-list-3 : tie.Need-add-list-3
 add-list-3 c = search needs
 
 slice-write-list-4 : tie.Need-slice-write-list-4
-slice-write-list-4 c = search needs
+slice-write-list-4 c = simp length-set (omega arith)
 
 same-length : tie.Need-same-length
 same-length c = search needs
