@@ -146,6 +146,17 @@ in-above b x (c ∷ l) u h =
     let k = ltb-true b c (u′ .0) in
     ⊎-elim (λ e. omega arith) (λ i. omega (arith, in-above c x l (u′ .1) i)) (in-cases x c l h)
 
+-- so a number is looked for only up to the first that is not below it
+pub met-first : (x c : ℕ) (l : List ℕ) → x ≤ c → ascendingFrom c l ≡ true → eqb c x ≡ isIn x (c ∷ l)
+unfolding isIn
+met-first x c l h u = go (eqb c x) (isIn x l) refl
+  where
+    go : (t b : Bool) → isIn x l ≡ b → t ≡ pick t true (isIn x l)
+    go true b e = refl
+    go false true e = absurd (omega (arith, in-above c x l u e))
+    go false false e = sym e
+
+
 -- ---- parents
 
 -- p is the highest multiple of m that is not above c
@@ -230,7 +241,7 @@ stands-parent {all} {rest} {c} {top} {group} x y up = go (ltb 0 (nOf c))
     go false = latest-judged y up (omega arith)
 
 -- behind its first code a list ascends too
-ascending-rest : (c : ℕ) (l : List ℕ) → ascendingFrom c l ≡ true → ascending l ≡ true
+pub ascending-rest : (c : ℕ) (l : List ℕ) → ascendingFrom c l ≡ true → ascending l ≡ true
 unfolding ascendingFrom
 ascending-rest c [] u = refl
 ascending-rest c (d ∷ l) u = both-hold (ltb c d) (ascendingFrom d l) u .1

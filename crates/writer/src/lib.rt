@@ -88,14 +88,16 @@ fn is_ascending(list: &[u32]) -> bool
     true
 }
 
-// Whether a number is in a list.
+// Whether a number is in an ascending list.
 fn contains(list: &[u32], code: u32) -> bool
+    requires { ⌜ ascending (now list) ≡ true ⌝ }
     ensures { λ r. ⌜ r ≡ isIn code (now (list .entry)) ⌝ }
 {
     let mut i = 0;
     while i < list.len() {
-        if list[i] == code {
-            return true;
+        let next = list[i];
+        if code <= next {
+            return next == code;
         }
         i += 1;
     }
@@ -197,6 +199,14 @@ fn put_position(out: &mut [u8], row: Row, q: u32, w: u32) -> Row
     ensures { λ r. ⌜ Puts (skipped (passed w (row .above) q) (row .octet)) (now (out .entry)) (row .at) (now (out .exit)) (r .at) × (r .above ≡ row .above + passed w (row .above) q * w) × (r .octet ≡ carried (passed w (row .above) q) (row .octet) + 2 ^ ((q - row .above - 1) % w)) ⌝ }
 {
     let ahead = q - row.above - 1;
+    // most positions stand in the octet at hand, and need no division
+    if ahead < w {
+        return Row {
+            at: row.at,
+            octet: row.octet + (1u8 << ahead),
+            above: row.above,
+        };
+    }
     let next = pass_octets(out, row, ahead / w, w);
     Row {
         at: next.at,
@@ -357,6 +367,7 @@ fn put_fields(list: &[u32], ns: &[u8], out: &mut [u8], start: usize) -> usize
 
 // Whether NS is well-formed and announced by code 1.0.0.7, or there is neither.
 fn ns_agrees(list: &[u32], ns: &[u8]) -> bool
+    requires { ⌜ ascending (now list) ≡ true ⌝ }
     ensures { λ r. ⌜ r ≡ nsAgrees (now (list .entry)) (now (ns .entry)) ⌝ }
 {
     let announced = contains(list, NON_STANDARD);
