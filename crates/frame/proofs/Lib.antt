@@ -5,7 +5,8 @@ pub mod Pens
 pub mod Scanning
 pub mod Sights
 pub mod Taking
-pub mod Eight
+pub mod Fives
+pub mod Pieces
 pub mod Progress
 pub mod Framing
 pub mod Checking

@@ -1,13 +1,13 @@
 -- Bits put into octets by a pen: what one step of any width adds, and what steps add one after the other.
 -- Assumes nothing.
-use Prim.Native.Nat.{ℕ, zero, suc, _+_, _*_, _/_, _%_, _^_, _<_, _≤_}
+use Prim.Native.Nat.{ℕ, zero, suc, _+_, _-_, _*_, _/_, _%_, _^_, _<_, _≤_}
 use mathlib.Core.Path.{_≡_, refl, sym, ap, _∙_}
 use mathlib.Core.Bool.{Bool}
 use mathlib.Core.List.{List, [], _∷_, _++_, append-assoc, append-nil}
 use native.Mathlib.Nat.{pow-suc}
 use native.Mathlib.Omega.{arith}
 use lib.Arith.{digits-lt}
-use lib.Pow.{pow-add, pow-mono, shl-exact, shr-lt}
+use lib.Pow.{pow-add, pow-mono, field, mod-mod-pow, shl-exact, shr-lt, shr-shr}
 use lib.Seq.{drop-cons, set-append-seam, take-all, take-append-le, drop-append-le, drop-drop}
 use lib.ListN.{length, set, take, drop, length-append, length-drop, length-set}
 use Rattle.octets.specs.Bits.{number, pack, packed}
@@ -29,6 +29,37 @@ pub number-lowBits : (w v : ℕ) → v < 2 ^ w → number (lowBits w v) ≡ v
 unfolding lowBits number
 number-lowBits zero v h = omega arith
 number-lowBits (suc w) v h = omega (arith, num-odd v, number-lowBits w (v / 2) (omega (arith, pow-suc 2 w)))
+
+-- the w lowest bits of a number are those of its rest by 2 ^ w
+pub lowBits-rest : (w v : ℕ) → lowBits w (v % 2 ^ w) ≡ lowBits w v
+unfolding lowBits
+lowBits-rest zero v = refl
+lowBits-rest (suc w) v =
+    let e : w + 1 ≡ suc w = omega arith in
+    let a : v % 2 ^ suc w % 2 ≡ v % 2 = rw e at (mod-mod-pow v w 1) in
+    let b : v % 2 ^ suc w / 2 ≡ v / 2 % 2 ^ w = rw e at (field v w 1) in
+    rw (a, b, lowBits-rest w (v / 2))
+
+-- the n lowest bits are the first ones of more
+pub lowBits-take : (n m v : ℕ) → n ≤ m → take n (lowBits m v) ≡ lowBits n v
+unfolding lowBits
+lowBits-take zero m v h = refl
+lowBits-take (suc n) zero v h = absurd (omega arith)
+lowBits-take (suc n) (suc m) v h = rw (lowBits-take n m (v / 2) (omega arith))
+
+-- behind the first n of a number's lowest bits
+pub lowBits-drop : (n m v : ℕ) → drop n (lowBits m v) ≡ lowBits (m - n) (v / 2 ^ n)
+unfolding lowBits
+lowBits-drop zero m v =
+    let a : m - 0 ≡ m = omega arith in
+    let b : v / 1 ≡ v = omega arith in
+    rw (a, b)
+lowBits-drop (suc n) zero v = let e : 0 - suc n ≡ 0 = omega arith in rw e
+lowBits-drop (suc n) (suc m) v =
+    let a : suc m - suc n ≡ m - n = omega arith in
+    let b : 1 + n ≡ suc n = omega arith in
+    let d : v / 2 / 2 ^ n ≡ v / 2 ^ suc n = rw b at (shr-shr v 1 n) in
+    rw (a, ← d) (lowBits-drop n m (v / 2))
 
 -- bits behind the first 8 n do not go into n octets
 pack-front : (n : ℕ) (p q : List Bool) → n * 8 ≤ length p → pack n (p ++ q) ≡ pack n p

@@ -27,17 +27,17 @@ module _ (plain₀ plain₁ : List ℕ) (scan : Scan) (pen : Pen) (b : Bool) whe
   unfolding lowBits takens leftsBehind keptsBehind
   takes-one e a = rw e (record { adds = a; left = refl; kept = refl })
 
-  pub takes-zero : b ≡ false → (scan .left ≡ 0 → ⊥) → Adds (lowBits 1 0) plain₀ (scan .pen) plain₁ pen → Takes (b ∷ []) plain₀ scan plain₁ (record { pen = pen; left = 5; kept = true })
+  pub takes-zero : b ≡ false → 0 < scan .left → Adds (lowBits 1 0) plain₀ (scan .pen) plain₁ pen → Takes (b ∷ []) plain₀ scan plain₁ (record { pen = pen; left = 5; kept = true })
   unfolding lowBits takens leftsBehind keptsBehind
   takes-zero e n a = rw e (go (scan .left) refl)
     where
       go : (k : ℕ) → scan .left ≡ k → Takes (false ∷ []) plain₀ scan plain₁ (record { pen = pen; left = 5; kept = true })
-      go zero z = absurd (n z)
+      go zero z = absurd (omega arith)
       go (suc k) z = record { adds = rw z a; left = refl; kept = rw z }
 
-pub takes-none : (plain : List ℕ) (scan : Scan) (b : Bool) (room : ℕ) → Ready plain (scan .pen) room → b ≡ false → scan .left ≡ 0 → Takes (b ∷ []) plain scan plain (record { pen = scan .pen; left = 5; kept = false })
+pub takes-none : (plain : List ℕ) (scan : Scan) (room : ℕ) → Ready plain (scan .pen) room → scan .left ≡ 0 → Takes (false ∷ []) plain scan plain (record { pen = scan .pen; left = 5; kept = false })
 unfolding takens leftsBehind keptsBehind
-takes-none plain scan b room r e z = rw e (record { adds = rw z (adds-none plain (scan .pen) (r .low)); left = refl; kept = rw z })
+takes-none plain scan room r z = record { adds = rw z (adds-none plain (scan .pen) (r .low)); left = refl; kept = rw z }
 
 -- the ways of a sixth one
 module _ (r : List Bool) (at : ℕ) (plain₀ plain₁ : List ℕ) (scan : Scan) where
@@ -75,24 +75,15 @@ module _ (s : List ℕ) (count at : ℕ) (x : Bit) (hc : count ≤ length s * 8)
   pub closes-zero : (kept : Bool) → kept ≡ true → isOne x ≡ false → closes kept (drop at (take count (bits s))) ≡ true
   closes-zero kept k e = rw (k, next s count at hc h, is, e)
 
--- the next bit of a run, which is no sixth one
-module _ (s : List ℕ) (count : ℕ) (way : Way) (hc : count ≤ length s * 8) (h : way .at < count) (hz : way .scan .left ≡ 0 → getD (bits s) (way .at) false ≡ false)
-    (b : Bool) (eb : b ≡ getD (bits s) (way .at) false) where
-  pub no-sixth : b ≡ true → 0 < way .scan .left
-  no-sixth = go (way .scan .left) (λ z. eb ∙ hz z)
-    where
-      go : (k : ℕ) → (k ≡ 0 → b ≡ false) → b ≡ true → 0 < k
-      go zero f e = absurd (let g = f refl in let z : _≡_ {A = ℕ} 0 1 = cc in omega arith)
-      go (suc k) f e = omega arith
-
-  pub goes-one : (plain₀ plain₁ : List ℕ) (scan : Scan) (again : ℕ) → Takes (b ∷ []) plain₀ (way .scan) plain₁ scan
-      → Goes (take count (bits s)) plain₀ way plain₁ (record { scan = scan; at = way .at + 1; again = again })
-  unfolding NoSix
-  goes-one plain₀ plain₁ scan again t = record {
-    next = b ∷ [];
-    here = rw eb (next s count (way .at) hc h);
-    at = refl;
-    some = omega arith;
-    no-six = (no-sixth, tt);
-    takes = t;
-  }
+-- the next bit of a run
+pub goes-one : (s : List ℕ) (count : ℕ) (way : Way) (b : Bool) {plain₀ plain₁ : List ℕ} {scan : Scan} → count ≤ length s * 8 → way .at < count → b ≡ getD (bits s) (way .at) false
+    → (b ≡ true → 0 < way .scan .left) → Takes (b ∷ []) plain₀ (way .scan) plain₁ scan → Goes (take count (bits s)) plain₀ way plain₁ (record { scan = scan; at = way .at + 1 })
+unfolding NoSix
+goes-one s count way b hc h eb six t = record {
+  next = b ∷ [];
+  here = rw eb (next s count (way .at) hc h);
+  at = refl;
+  some = omega arith;
+  no-six = (six, tt);
+  takes = t;
+}

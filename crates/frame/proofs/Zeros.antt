@@ -1,13 +1,13 @@
 -- Bits sent with the zeros that they need: two lists one after the other, the length, and what is put piece by piece. The length of a frame.
 -- Assumes nothing.
-use Prim.Native.Nat.{ℕ, zero, suc, _+_, _-_, _*_, _/_, _%_, _<_, _≤_}
+use Prim.Native.Nat.{ℕ, zero, suc, _+_, _*_, _/_, _%_, _<_, _≤_}
 use mathlib.Core.Path.{_≡_, refl, sym, ap, _∙_}
 use mathlib.Core.Bool.{Bool, true, false}
 use mathlib.Core.List.{List, [], _∷_, _++_, append-assoc, append-nil}
 use native.Mathlib.Omega.{arith}
 use lib.ListN.{length, getD, drop, length-append}
 use lib.Seq.{drop-cons}
-use Rattle.octets.specs.Bits.{odd, octBefore, bits, number}
+use Rattle.octets.specs.Bits.{octBefore, bits, number}
 use Rattle.octets.proofs.Laws.{length-bits}
 use Rattle.fcs.specs.Division.{fcs}
 use Rattle.fcs.proofs.Polynomials.{length-fcs}
@@ -20,7 +20,7 @@ use Rattle.frame.specs.Inner.{Inks}
 use Rattle.frame.specs.declared.Pen.{Pen}
 use Rattle.frame.specs.declared.Ink.{Ink}
 use Rattle.frame.proofs.Flags.{length-flags}
-use Rattle.frame.proofs.Pens.{length-lowBits, adds-none, adds-then, ready-then}
+use Rattle.frame.proofs.Pens.{adds-none, adds-then, ready-then}
 
 -- zeros are put into two lists, one after the other, piece by piece
 pub stuffed-append : (k : ℕ) (xs ys : List Bool) → stuffed k (xs ++ ys) ≡ stuffed k xs ++ stuffed (leftAfter k xs) ys
@@ -97,51 +97,15 @@ lowBits-octet v =
 pub record Splits (bs a b : List Bool) : Type 0 where
   pub parts : bs ≡ a ++ b
 
--- the next of a number's k lowest bits
-pub lowBits-next : (k v : ℕ) → 0 < k → Splits (lowBits k v) (odd v ∷ []) (lowBits (k - 1) (v / 2))
-unfolding lowBits
-lowBits-next zero v h = absurd (omega arith)
-lowBits-next (suc k) v h = let e : suc k - 1 ≡ k = omega arith in record { parts = rw e }
-
 -- the next octet of a run
 pub bits-next : (s : List ℕ) (i : ℕ) → i < length s → Splits (bits (drop i s)) (octBefore (getD s i 0) []) (bits (drop (i + 1) s))
 unfolding bits
 bits-next s i h = let e : i + 1 ≡ suc i = omega arith in record { parts = rw (e, drop-cons s i 0 h) }
 
 -- the FCS is sent as two octets, the lower of its number first
-pub content-octets : (s : List ℕ) (f : ℕ) → f ≡ number (fcs (bits s)) → Splits (content s) (bits s) (octBefore (f % 256) [] ++ octBefore (f / 256) [])
-unfolding content bits
+pub content-octets : (s : List ℕ) (f : ℕ) → f ≡ number (fcs (bits s)) → Splits (content s) (bits s) (bits (f % 256 ∷ f / 256 ∷ []))
+unfolding content
 content-octets s f e = record { parts = rw e (ap (λ (l : List Bool). bits s ++ l) (sym (fcs-octets s))) }
-
--- one bit, where k ones may still come, is sent as the w lowest bits of v; then m ones may still come
-pub record Sent (k : ℕ) (b : Bool) (w v m : ℕ) : Type 0 where
-  pub bits : stuffed k (b ∷ []) ≡ lowBits w v
-  pub left : m ≡ leftAfter k (b ∷ [])
-
--- a fifth one, and a zero
-pub sent-five : (k : ℕ) (b : Bool) → b ≡ true → k ≡ 0 → Sent k b 2 1 4
-unfolding stuffed leftAfter lowBits
-sent-five k b e z = rw (e, z) (record { bits = refl; left = refl })
-
--- another one
-pub sent-one : (k : ℕ) (b : Bool) → b ≡ true → (k ≡ 0 → ⊥) → Sent k b 1 1 (k - 1)
-unfolding stuffed leftAfter lowBits
-sent-one zero b e z = absurd (z refl)
-sent-one (suc k) b e z = rw e (record { bits = refl; left = omega arith })
-
--- a zero
-pub sent-zero : (k : ℕ) (b : Bool) → b ≡ false → Sent k b 1 0 4
-unfolding stuffed leftAfter lowBits
-sent-zero k b e = rw e (record { bits = refl; left = refl })
-
--- the room for it
-pub sent-ready : {k : ℕ} {b : Bool} {w v m : ℕ} {out : List ℕ} {pen : Pen} → Sent k b w v m → Ready out pen (length (stuffed k (b ∷ []))) → Ready out pen w
-sent-ready {w = w} {v = v} x r = rw (x .bits, length-lowBits w v) at r
-
--- it is put
-pub sent-inks : {b : Bool} {w v m : ℕ} {out₀ out₁ : List ℕ} {ink : Ink} {pen : Pen} → Sent (ink .left) b w v m → Adds (lowBits w v) out₀ (ink .pen) out₁ pen
-    → Inks (b ∷ []) out₀ ink out₁ (record { pen = pen; left = m })
-sent-inks x y = record { adds = rw (x .bits) y; left = x .left }
 
 -- what two steps put, one after the other
 inks-then : {a b : List Bool} {out₀ out₁ out₂ : List ℕ} {ink₀ ink₁ ink₂ : Ink} → Inks a out₀ ink₀ out₁ ink₁ → Inks b out₁ ink₁ out₂ ink₂ → Inks (a ++ b) out₀ ink₀ out₂ ink₂

@@ -18,12 +18,12 @@ use Rattle.frame.specs.declared.Way.{Way}
 use Rattle.frame.specs.declared.Found.{Found}
 use Rattle.frame.specs.declared.Found.the-variants.{Nothing, Upto}
 
--- the bits are sent with no zero put in. k ones may still come before the one that a zero follows
-unfoldable pub calm : ℕ → List Bool → Bool
-calm k [] = true
-calm k (false ∷ bs) = calm 4 bs
-calm zero (true ∷ bs) = false
-calm (suc k) (true ∷ bs) = calm k bs
+-- how many bits there are up to the one that a zero follows, one more than all where there is none. k ones may still come before it
+unfoldable pub fiveEnd : ℕ → List Bool → ℕ
+fiveEnd k [] = 1
+fiveEnd k (false ∷ bs) = suc (fiveEnd 4 bs)
+fiveEnd zero (true ∷ bs) = 1
+fiveEnd (suc k) (true ∷ bs) = suc (fiveEnd k bs)
 
 -- the bits bs were put with the zeros that they need
 pub record Inks (bs : List Bool) (out₀ : List ℕ) (ink₀ : Ink) (out₁ : List ℕ) (ink₁ : Ink) : Type 0 where

@@ -2,7 +2,7 @@
 ghost use mathlib.Core.Path.{_≡_};
 ghost use mathlib.Core.Bool.{Bool, true, false};
 ghost use mathlib.Core.List.{List, [], _∷_};
-ghost use Prim.Native.Nat.{ℕ, _+_, _-_, _*_, _^_, _≤_, _<_};
+ghost use Prim.Native.Nat.{ℕ, _+_, _-_, _*_, _%_, _^_, _≤_, _<_};
 ghost use lib.Count.{leadingZeros};
 ghost use lib.ListN.{length, getD, take, drop};
 ghost use Rattle.octets.specs.Bits.{bits, number, octBefore, packed};
@@ -13,7 +13,7 @@ ghost use Rattle.frame.specs.Frame.{flags, flagsAt, content, frame, fram
 ghost use Rattle.frame.specs.Reader.{checked, alone, readFrame, Reads};
 ghost use Rattle.frame.specs.Writer.{writeFrame, Writes};
 ghost use Rattle.frame.specs.Pen.{lowBits, Holds, Ready, Adds};
-ghost use Rattle.frame.specs.Inner.{calm, Inks, Takes, Goes, Ends, Finds};
+ghost use Rattle.frame.specs.Inner.{fiveEnd, Inks, Takes, Goes, Ends, Finds};
 ghost use Rattle.frame.specs.Limits.{mostInformation, mostBits, informationRoom, frameRoom, mostOpening, mostClosing};
 use fcs::fcs_of;
 use octets::bit_at;
@@ -124,39 +124,29 @@ pub struct Ink {
     pub left: usize,
 }
 
-// Puts a bit, and a zero behind a fifth one.
-fn put_stuffed(out: &mut [u8], ink: Ink, one: bool) -> Ink
-    requires { ⌜ (ink .left ≤ 4) × Ready (now out) (ink .pen) (length (stuffed (ink .left) (one ∷ []))) ⌝ }
-    ensures { λ r. ⌜ Inks (one ∷ []) (now (out .entry)) ink (now (out .exit)) r ⌝ }
+// How many bits of an octet there are up to the first of these: the last of so many ones at its front, or of five in a row. 9 where there are none.
+fn five_end(octet: u8, left: usize) -> usize
+    requires { ⌜ (0 < left) × (left ≤ 5) ⌝ }
+    ensures { λ r. ⌜ r ≡ fiveEnd (left - 1) (lowBits 8 octet) ⌝ }
 {
-    let pen = ink.pen;
-    let left = ink.left;
-    if one {
-        if left == 0 {
-            let next = put_bits(out, pen, 1, 2);
-            return Ink { pen: next, left: 4 };
-        }
-        let next = put_bits(out, pen, 1, 1);
-        return Ink {
-            pen: next,
-            left: left - 1,
-        };
+    if left <= (u8::trailing_zeros(255 - octet) as usize) {
+        return left;
     }
-    let next = put_bits(out, pen, 0, 1);
-    Ink { pen: next, left: 4 }
-}
-
-// Whether an octet has no five ones in a row, and begins with at most so many.
-fn is_calm(octet: u8, most: usize) -> bool
-    requires { ⌜ most ≤ 4 ⌝ }
-    ensures { λ r. ⌜ r ≡ calm most (octBefore octet []) ⌝ }
-{
     let two = octet & (octet >> 1);
     let four = two & (two >> 2);
-    if four & (octet >> 4) != 0 {
-        return false;
+    let five = four & (octet >> 4);
+    if five == 0 {
+        return 9;
     }
-    (u8::trailing_zeros(255 - octet) as usize) <= most
+    (u8::trailing_zeros(five) as usize) + 5
+}
+
+// The width lowest bits of an octet.
+fn lowest(octet: u8, width: usize) -> u8
+    requires { ⌜ width ≤ 8 ⌝ }
+    ensures { λ r. ⌜ r ≡ octet % 2 ^ width ⌝ }
+{
+    ((octet as u16) % (1u16 << width)) as u8
 }
 
 // How many ones an octet ends with.
@@ -166,6 +156,32 @@ fn last_ones(octet: u8) -> usize
     u8::leading_zeros(255 - octet) as usize
 }
 
+// Puts the bits of an octet, with the zeros that they need: up to each fifth one in a row at once, and the rest. The zero behind a fifth one
+// takes its place in front of what is left.
+fn put_pieces(out: &mut [u8], start: Ink, octet: u8, first: usize) -> Ink
+    requires { ⌜ (start .left ≤ 4) × Ready (now out) (start .pen) (length (stuffed (start .left) (octBefore octet []))) × (first ≡ fiveEnd (start .left) (lowBits 8 octet)) ⌝ }
+    ensures { λ r. ⌜ Inks (octBefore octet []) (now (out .entry)) start (now (out .exit)) r ⌝ }
+{
+    let mut pen = start.pen;
+    let mut left = start.left;
+    let mut rest = octet;
+    let mut size = 8usize;
+    let mut width = first;
+    while width <= size {
+        pen = put_bits(out, pen, lowest(rest, width), width);
+        let shift = width - 1;
+        rest = (rest >> shift) - 1;
+        size -= shift;
+        left = 4;
+        width = five_end(rest, left + 1);
+    }
+    let next = put_bits(out, pen, rest, size);
+    Ink {
+        pen: next,
+        left: 4 - last_ones(rest << (8 - size)),
+    }
+}
+
 // Puts the bits of an octet, with the zeros that they need. Where they need none they are put at once.
 fn put_octet(out: &mut [u8], start: Ink, octet: u8) -> Ink
     requires { ⌜ (start .left ≤ 4) × Ready (now out) (start .pen) (length (stuffed (start .left) (octBefore octet []))) ⌝ }
@@ -173,30 +189,15 @@ fn put_octet(out: &mut [u8], start: Ink, octet: u8) -> Ink
 {
     let pen = start.pen;
     let left = start.left;
-    if is_calm(octet, left) {
-        let next = put_bits(out, pen, octet, 8);
-        return Ink {
-            pen: next,
-            left: 4 - last_ones(octet),
-        };
+    let width = five_end(octet, left + 1);
+    if width <= 8 {
+        return put_pieces(out, start, octet, width);
     }
-    put_singly(out, start, octet)
-}
-
-// Puts the bits of an octet one by one, with the zeros that they need.
-fn put_singly(out: &mut [u8], start: Ink, octet: u8) -> Ink
-    requires { ⌜ (start .left ≤ 4) × Ready (now out) (start .pen) (length (stuffed (start .left) (octBefore octet []))) ⌝ }
-    ensures { λ r. ⌜ Inks (octBefore octet []) (now (out .entry)) start (now (out .exit)) r ⌝ }
-{
-    let mut ink = start;
-    let mut rest = octet;
-    let mut k = 8usize;
-    while 0 < k {
-        ink = put_stuffed(out, ink, rest % 2 == 1);
-        rest = rest / 2;
-        k -= 1;
+    let next = put_bits(out, pen, octet, 8);
+    Ink {
+        pen: next,
+        left: 4 - last_ones(octet),
     }
-    ink
 }
 
 // Puts the bits of a run of octets, with the zeros that they need.
@@ -226,9 +227,9 @@ fn put_content(out: &mut [u8], start: Pen, info: &[u8], f: u16) -> Pen
         },
         info,
     );
-    let second = put_octet(out, first, (f % 256) as u8);
-    let third = put_octet(out, second, (f / 256) as u8);
-    third.pen
+    let check = [(f % 256) as u8, (f / 256) as u8];
+    let second = put_octets(out, first, &check);
+    second.pen
 }
 
 // The whole frame, where the information, the flag counts and the output are right. Gives its bit count.
@@ -314,9 +315,9 @@ pub struct Scan {
     pub kept: bool,
 }
 
-// Takes one bit of the content: the zero after five ones is left out.
+// Takes one bit of the content, no inserted zero.
 fn take_bit(plain: &mut [u8], scan: Scan, one: bool) -> Scan
-    requires { ⌜ (one ≡ true → 0 < scan .left) × Ready (now plain) (scan .pen) 1 ⌝ }
+    requires { ⌜ (0 < scan .left) × Ready (now plain) (scan .pen) 1 ⌝ }
     ensures { λ r. ⌜ Takes (one ∷ []) (now (plain .entry)) scan (now (plain .exit)) r ⌝ }
 {
     let pen = scan.pen;
@@ -328,13 +329,6 @@ fn take_bit(plain: &mut [u8], scan: Scan, one: bool) -> Scan
             pen: next,
             left: left - 1,
             kept,
-        };
-    }
-    if left == 0 {
-        return Scan {
-            pen,
-            left: 5,
-            kept: false,
         };
     }
     let next = put_bits(plain, pen, 0, 1);
@@ -370,10 +364,10 @@ fn end_content(run: &[u8], count: usize, at: usize, plain: &mut [u8], scan: Scan
     }
 }
 
-// Takes eight bits of the content at once, where none of them is an inserted zero.
+// Takes eight bits of the content at once, where no five ones in a row end among them.
 fn take_octet(plain: &mut [u8], scan: Scan, octet: u8) -> Scan
-    requires { ⌜ (0 < scan .left) × (scan .left ≤ 5) × (calm (scan .left - 1) (octBefore octet []) ≡ true) × Ready (now plain) (scan .pen) 8 ⌝ }
-    ensures { λ r. ⌜ Takes (octBefore octet []) (now (plain .entry)) scan (now (plain .exit)) r ⌝ }
+    requires { ⌜ (0 < scan .left) × (scan .left ≤ 5) × (8 < fiveEnd (scan .left - 1) (lowBits 8 octet)) × Ready (now plain) (scan .pen) 8 ⌝ }
+    ensures { λ r. ⌜ Takes (lowBits 8 octet) (now (plain .entry)) scan (now (plain .exit)) r ⌝ }
 {
     let pen = scan.pen;
     let next = put_bits(plain, pen, octet, 8);
@@ -384,80 +378,79 @@ fn take_octet(plain: &mut [u8], scan: Scan, octet: u8) -> Scan
     }
 }
 
-// How far reading has come, and the place from which on eight bits are tried at once.
+// Takes the bits of an octet up to the fifth one in a row. Where they are more than the ones that were left, a zero stands among them.
+fn take_part(plain: &mut [u8], scan: Scan, octet: u8, width: usize) -> Scan
+    requires { ⌜ (0 < scan .left) × (scan .left ≤ 5) × (width ≡ fiveEnd (scan .left - 1) (lowBits 8 octet)) × (width ≤ 8) × Ready (now plain) (scan .pen) width ⌝ }
+    ensures { λ r. ⌜ Takes (lowBits width octet) (now (plain .entry)) scan (now (plain .exit)) r ⌝ }
+{
+    let pen = scan.pen;
+    let left = scan.left;
+    let kept = scan.kept;
+    let next = put_bits(plain, pen, lowest(octet, width), width);
+    Scan {
+        pen: next,
+        left: 0,
+        kept: kept | (left < width),
+    }
+}
+
+// How far reading has come.
 pub struct Way {
     pub scan: Scan,
     pub at: usize,
-    pub again: usize,
 }
 
-// Whether eight bits are tried at once here: it is time to, there are as many, and the next one is no inserted zero.
-fn is_due(count: usize, way: Way) -> bool
-    requires { ⌜ way .at ≤ count ⌝ }
-    ensures { λ r. ⌜ (r ≡ true → (way .at + 8 ≤ count) × (0 < way .scan .left)) ⌝ }
-{
-    let scan = way.scan;
-    let at = way.at;
-    if at < way.again {
-        return false;
-    }
-    if count - at < 8 {
-        return false;
-    }
-    0 < scan.left
-}
-
-// Where one bit is taken: the place from which on eight are tried at once again. Eight bits that are not calm are taken one by one,
-// up to the inserted zero among them.
-fn next_try(way: Way) -> usize
-    requires { ⌜ way .at ≤ mostBits ⌝ }
-{
-    let scan = way.scan;
-    let at = way.at;
-    if scan.left == 0 {
-        return 0;
-    }
-    if way.again <= at {
-        return at + 8;
-    }
-    way.again
-}
-
-// Takes one bit.
+// Takes one bit, no inserted zero.
 fn take_one(run: &[u8], count: usize, plain: &mut [u8], way: Way) -> Way
-    requires { ⌜ (count ≤ length (now run) * 8) × (count ≤ mostBits) × (way .at < count) × (way .scan .left ≡ 0 → getD (bits (now run)) (way .at) false ≡ false) × Ready (now plain) (way .scan .pen) 1 ⌝ }
+    requires { ⌜ (count ≤ length (now run) * 8) × (count ≤ mostBits) × (way .at < count) × (0 < way .scan .left) × Ready (now plain) (way .scan .pen) 1 ⌝ }
     ensures { λ r. ⌜ Goes (take count (bits (now (run .entry)))) (now (plain .entry)) way (now (plain .exit)) r ⌝ }
 {
     let scan = way.scan;
     let at = way.at;
     let next = take_bit(plain, scan, is_one(bit_at(run, at)));
-    let again = next_try(way);
     Way {
         scan: next,
         at: at + 1,
-        again,
     }
 }
 
-// Takes the next eight bits at once, or the next one.
+// Leaves out an inserted zero, or takes the next bits: up to the fifth one in a row or eight at once, and one by one where fewer are left.
 fn take_next(run: &[u8], count: usize, plain: &mut [u8], way: Way) -> Way
     requires { ⌜ (count ≤ length (now run) * 8) × (count ≤ mostBits) × (way .at < count) × (way .scan .left ≤ 5) × (way .scan .left ≡ 0 → getD (bits (now run)) (way .at) false ≡ false) × Ready (now plain) (way .scan .pen) (count - way .at) ⌝ }
     ensures { λ r. ⌜ Goes (take count (bits (now (run .entry)))) (now (plain .entry)) way (now (plain .exit)) r ⌝ }
 {
     let scan = way.scan;
     let at = way.at;
-    if is_due(count, way) {
-        let octet = octet_at(run, at);
-        if is_calm(octet, scan.left - 1) {
-            let next = take_octet(plain, scan, octet);
-            return Way {
-                scan: next,
-                at: at + 8,
-                again: 0,
-            };
-        }
+    let pen = scan.pen;
+    let left = scan.left;
+    if left == 0 {
+        let next = Scan {
+            pen,
+            left: 5,
+            kept: false,
+        };
+        return Way {
+            scan: next,
+            at: at + 1,
+        };
     }
-    take_one(run, count, plain, way)
+    if count - at < 8 {
+        return take_one(run, count, plain, way);
+    }
+    let octet = octet_at(run, at);
+    let width = five_end(octet, left);
+    if 8 < width {
+        let next = take_octet(plain, scan, octet);
+        return Way {
+            scan: next,
+            at: at + 8,
+        };
+    }
+    let next = take_part(plain, scan, octet, width);
+    Way {
+        scan: next,
+        at: at + width,
+    }
 }
 
 // Reads the content from a place of the first count bits of a run, without its inserted zeros, up to the closing flag.
@@ -473,7 +466,6 @@ fn read_content(run: &[u8], count: usize, start: usize, plain: &mut [u8]) -> Fou
     let mut way = Way {
         scan: first,
         at: start,
-        again: 0,
     };
     while way.at < count {
         let scan = way.scan;

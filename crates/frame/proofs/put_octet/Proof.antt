@@ -1,65 +1,73 @@
--- `frame::put_octet` meets its contract: a calm octet is put as it is (`eight-inks`), another one bit by bit. Assumes nothing.
-use mathlib.Core.Bool.{true}
+-- `frame::put_octet` meets its contract: where no fifth one stands in it, an octet is put as the rest that it is (`pieces-end`). Assumes nothing.
+use Prim.Native.Nat.{_+_, _-_}
 use mathlib.Core.List.{[]}
-use mathlib.Core.Path.{_≡_, sym, _∙_}
+use mathlib.Core.Path.{_≡_}
 use native.Mathlib.Omega.{arith}
 use borrow.Author.Needs.{needs}
 use Rattle.octets.specs.Bits.{octBefore}
-use Rattle.frame.specs.Inner.{calm}
-use Rattle.frame.proofs.Eight.{calm-ended, eight-ready, eight-inks}
+use Rattle.frame.proofs.Pieces.{Pieces, pieces-none, octet-ones, rest-ready, pieces-end}
 use Rattle.frame.proofs.put_octet.Statement.{statement}
 use Rattle.frame.proofs.put_octet.Tie as tie
 
--- the octet is calm
-steady : (c : tie.Then1) → let a = c .before .before .before .before .args in calm (a .start .left) (octBefore (a .octet) []) ≡ true
-steady c = sym (c .before .is-calm .ensures) ∙ c .if1 .taken
+-- all of the octet is left
+all : (c : tie.After-five-end) → let a = c .before .before .before .args in
+    Pieces (octBefore (a .octet) []) (a .out .now) (a .start .pen) (a .start .left) (a .out .now) (a .start .pen) (a .start .left) (a .octet) 8 (c .five-end .result)
+all c =
+    let st = c .before .before .before in
+    let e : st .args .start .left + 1 - 1 ≡ st .args .start .left = omega arith in
+    pieces-none (st .args .octet) (c .five-end .result) (omega arith) (st .pre) (rw e at (c .five-end .ensures))
 
-is-calm-requires : tie.Need-is-calm-requires
-is-calm-requires c κs = search needs
+add-five-end : tie.Need-add-five-end
+add-five-end c = search needs
 
-put-bits-requires : tie.Need-put-bits-requires
-put-bits-requires c κs =
-    let st = c .before .before .before .before .before in
-    (omega arith, omega arith, eight-ready (st .args .octet) (omega arith) (st .args .start .left) (steady (c .before)) (st .pre .1))
+five-end-requires : tie.Need-five-end-requires
+five-end-requires c κs = search needs
 
-last-ones-requires : tie.Need-last-ones-requires
-last-ones-requires c κs = search needs
-
-sub-t11 : tie.Need-sub-t11
-sub-t11 c =
-    let t1 = c .before .before .before .before .before in
-    let st = t1 .before .before .before .before in
-    omega (arith, c .last-ones .ensures, calm-ended (st .args .start .left) (st .args .octet) (st .pre .0) (omega arith) (steady t1))
+put-pieces-requires : tie.Need-put-pieces-requires
+put-pieces-requires c κs =
+    let fe = c .before .before in
+    let st = fe .before .before .before in
+    (st .pre .0, st .pre .1, all fe .five)
 
 same-length : tie.Need-same-length
 same-length c = search needs
 
 returns : tie.Need-returns
-returns c =
-    let pb = c .before .before .before in
-    let t1 = pb .before .before in
-    let st = t1 .before .before .before .before in
-    eight-inks (st .args .octet) (omega arith) (c .last-ones .result) (st .pre .0) (steady t1) (c .last-ones .ensures) (pb .put-bits .ensures)
+returns c = search needs
 
-put-singly-requires : tie.Need-put-singly-requires
-put-singly-requires c κs = search needs
+put-bits-requires : tie.Need-put-bits-requires
+put-bits-requires c κs = let e1 = c .before in (omega arith, omega arith, rest-ready (all (e1 .before)) (e1 .if1 .left))
+
+last-ones-requires : tie.Need-last-ones-requires
+last-ones-requires c κs = search needs
+
+sub-t14 : tie.Need-sub-t14
+sub-t14 c =
+    let e1 = c .before .before .before .before .before in
+    let o = e1 .before .before .before .before .args .octet in
+    omega (arith, octet-ones o (c .last-ones .result) (omega arith) (c .last-ones .ensures), all (e1 .before) .last (e1 .if1 .left))
 
 same-length-2 : tie.Need-same-length-2
 same-length-2 c = search needs
 
 returns-2 : tie.Need-returns-2
-returns-2 c = search needs
+returns-2 c =
+    let pb = c .before .before .before in
+    let e1 = pb .before .before in
+    let o = e1 .before .before .before .before .args .octet in
+    pieces-end (all (e1 .before)) (e1 .if1 .left) (c .last-ones .result) (octet-ones o (c .last-ones .result) (omega arith) (c .last-ones .ensures)) (pb .put-bits .ensures)
 
 pub put-octet-spec : {M : Type 1} → statement M
 put-octet-spec =
     tie.close
     (tie.spec
-    is-calm-requires
-    put-bits-requires
-    last-ones-requires
-    sub-t11
+    add-five-end
+    five-end-requires
+    put-pieces-requires
     same-length
     returns
-    put-singly-requires
+    put-bits-requires
+    last-ones-requires
+    sub-t14
     same-length-2
     returns-2)

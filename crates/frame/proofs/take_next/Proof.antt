@@ -1,77 +1,106 @@
--- `frame::take_next` meets its contract: eight calm bits of the run are taken at once (`goes-eight`), else one. Assumes nothing.
-use Prim.Native.Nat.{_-_}
-use mathlib.Core.Bool.{true}
-use mathlib.Core.List.{[]}
-use mathlib.Core.Path.{_≡_, sym, _∙_}
+-- `frame::take_next` meets its contract: an inserted zero is left out, a bit or the lowest bits of an octet are taken (`goes-one`, `lowest-goes`).
+-- Assumes nothing.
+use Prim.Native.Nat.{ℕ, _-_}
+use mathlib.Core.Bool.{false}
+use mathlib.Core.Path.{_≡_, sym}
 use native.Mathlib.Omega.{arith}
 use borrow.Author.Needs.{needs}
-use Rattle.octets.specs.Bits.{octBefore}
-use Rattle.frame.specs.Inner.{calm}
-use Rattle.frame.proofs.Eight.{goes-eight}
-use Rattle.frame.proofs.Pens.{ready-less}
+use Rattle.frame.specs.Pen.{lowBits}
+use Rattle.frame.proofs.Taking.{takes-none, goes-one}
+use Rattle.frame.proofs.Fives.{end-some, lowest-goes}
 use Rattle.frame.proofs.take_next.Statement.{statement}
 use Rattle.frame.proofs.take_next.Tie as tie
 
--- the eight bits are calm
-steady : (c : tie.Then2) → let oa = c .before .before .before in let a = oa .before .before .before .before .before .before .args in calm (a .way .scan .left - 1) (octBefore (oa .octet-at .result) []) ≡ true
-steady c = sym (c .before .is-calm .ensures) ∙ c .if2 .taken
-
-is-due-requires : tie.Need-is-due-requires
-is-due-requires c κs = search needs
-
-octet-at-requires : tie.Need-octet-at-requires
-octet-at-requires c κs = search needs
-
-sub-is-calm : tie.Need-sub-is-calm
-sub-is-calm c = let t1 = c .before .before in omega (arith, t1 .before .is-due .ensures (t1 .if1 .taken) .1)
-
-is-calm-requires : tie.Need-is-calm-requires
-is-calm-requires c κs = search needs
-
-take-octet-requires : tie.Need-take-octet-requires
-take-octet-requires c κs =
-    let t1 = c .before .before .before .before .before in
-    let st = t1 .before .before .before .before .before in
-    let d = t1 .before .is-due .ensures (t1 .if1 .taken) in
-    (d .1, st .pre .3, steady (c .before), ready-less _ 8 (st .pre .5) (omega (arith, d .0)))
-
-add-t14 : tie.Need-add-t14
-add-t14 c = search needs
-
-same-length : tie.Need-same-length
-same-length c = search needs
+add-t15 : tie.Need-add-t15
+add-t15 c = search needs
 
 returns : tie.Need-returns
 returns c =
-    let to = c .before .before in
-    let t2 = to .before .before in
-    let oa = t2 .before .before .before in
-    let t1 = oa .before in
-    let st = t1 .before .before .before .before .before in
-    let d = t1 .before .is-due .ensures (t1 .if1 .taken) in
-    goes-eight (st .args .run .now) (st .args .count) (oa .octet-at .result) 0 (st .pre .0) (d .0) (oa .octet-at .ensures) (d .1) (steady t2) (to .take-octet .ensures)
+    let st = c .before .before .before .before .before in
+    let a = st .args in
+    goes-one (a .run .now) (a .count) (a .way) false (st .pre .0) (st .pre .2) (sym (st .pre .4 (c .if1 .taken))) (λ e. absurd (let z : _≡_ {A = ℕ} 0 1 = cc in omega arith))
+    (takes-none (a .plain .now) (a .way .scan) _ (st .pre .5) (c .if1 .taken))
+
+sub-if2 : tie.Need-sub-if2
+sub-if2 c = search needs
 
 take-one-requires : tie.Need-take-one-requires
 take-one-requires c κs = search needs
 
-same-length-2 : tie.Need-same-length-2
-same-length-2 c = search needs
+same-length : tie.Need-same-length
+same-length c = search needs
 
 returns-2 : tie.Need-returns-2
 returns-2 c = search needs
+
+octet-at-requires : tie.Need-octet-at-requires
+octet-at-requires c κs = search needs
+
+five-end-requires : tie.Need-five-end-requires
+five-end-requires c κs = search needs
+
+take-octet-requires : tie.Need-take-octet-requires
+take-octet-requires c κs = search needs
+
+add-t21 : tie.Need-add-t21
+add-t21 c = search needs
+
+same-length-2 : tie.Need-same-length-2
+same-length-2 c = search needs
+
+returns-3 : tie.Need-returns-3
+returns-3 c =
+    let to = c .before .before in
+    let t3 = to .before .before in
+    let fe = t3 .before in
+    let oa = fe .before in
+    let e2 = oa .before in
+    let e1 = e2 .before in
+    let st = e1 .before .before .before .before .before in
+    let a = st .args in
+    lowest-goes (a .run .now) (a .count) 8 (oa .octet-at .result) (st .pre .0) (omega (arith, e2 .if2 .left)) (oa .octet-at .ensures) (omega arith) (omega arith) (omega (arith, e1 .if1 .left))
+    (omega (arith, fe .five-end .ensures, t3 .if3 .taken)) (to .take-octet .ensures)
+
+take-part-requires : tie.Need-take-part-requires
+take-part-requires c κs = search needs
+
+add-t16 : tie.Need-add-t16
+add-t16 c = search needs
+
+same-length-3 : tie.Need-same-length-3
+same-length-3 c = search needs
+
+returns-4 : tie.Need-returns-4
+returns-4 c =
+    let tp = c .before .before in
+    let e3 = tp .before .before in
+    let fe = e3 .before in
+    let oa = fe .before in
+    let e2 = oa .before in
+    let e1 = e2 .before in
+    let st = e1 .before .before .before .before .before in
+    let a = st .args in
+    let w = fe .five-end .ensures in
+    lowest-goes (a .run .now) (a .count) (fe .five-end .result) (oa .octet-at .result) (st .pre .0) (omega (arith, e2 .if2 .left)) (oa .octet-at .ensures) (e3 .if3 .left)
+    (omega (arith, w, end-some (a .way .scan .left - 1) (lowBits 8 (oa .octet-at .result)))) (omega (arith, e1 .if1 .left)) (omega (arith, w)) (tp .take-part .ensures)
 
 pub take-next-spec : {M : Type 1} → statement M
 take-next-spec =
     tie.close
     (tie.spec
-    is-due-requires
-    octet-at-requires
-    sub-is-calm
-    is-calm-requires
-    take-octet-requires
-    add-t14
-    same-length
+    add-t15
     returns
+    sub-if2
     take-one-requires
+    same-length
+    returns-2
+    octet-at-requires
+    five-end-requires
+    take-octet-requires
+    add-t21
     same-length-2
-    returns-2)
+    returns-3
+    take-part-requires
+    add-t16
+    same-length-3
+    returns-4)

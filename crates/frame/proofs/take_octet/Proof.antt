@@ -1,8 +1,10 @@
--- `frame::take_octet` meets its contract: a calm octet is taken whole (`eight-takes`). Assumes nothing.
+-- `frame::take_octet` meets its contract: no five ones end among the bits, and all of them are taken (`lowest-takes`). Assumes nothing.
 use Prim.Native.Nat.{_-_}
+use mathlib.Core.Bool.{true}
 use native.Mathlib.Omega.{arith}
 use borrow.Author.Needs.{needs}
-use Rattle.frame.proofs.Eight.{calm-ended, eight-takes}
+use lib.Count.{leadingZeros}
+use Rattle.frame.proofs.Fives.{eight-most, eight-leaves, lowest-takes}
 use Rattle.frame.proofs.take_octet.Statement.{statement}
 use Rattle.frame.proofs.take_octet.Tie as tie
 
@@ -15,7 +17,7 @@ last-ones-requires c κs = search needs
 sub-t9 : tie.Need-sub-t9
 sub-t9 c =
     let st = c .before .before .before .before .before .before .before in
-    omega (arith, c .last-ones .ensures, calm-ended (st .args .scan .left - 1) (st .args .octet) (omega (arith, st .pre .1)) (omega arith) (st .pre .2))
+    omega (arith, c .last-ones .ensures, eight-most (st .args .scan .left) (st .args .octet) (st .pre .0, st .pre .1) (omega arith) (st .pre .2))
 
 same-length : tie.Need-same-length
 same-length c = search needs
@@ -24,7 +26,10 @@ returns : tie.Need-returns
 returns c =
     let pb = c .before .before .before in
     let st = pb .before .before .before .before in
-    eight-takes (st .args .octet) (omega arith) (c .last-ones .result) (st .pre .0) (st .pre .1) (st .pre .2) (c .last-ones .ensures) (pb .put-bits .ensures)
+    let o = st .args .octet in
+    rw (c .last-ones .ensures)
+    (lowest-takes 8 o (5 - leadingZeros 8 (255 - o)) (λ kept. true) (omega arith) (st .pre .0) (omega (arith, st .pre .2))
+    (eight-leaves (st .args .scan .left) o (st .pre .0, st .pre .1) (omega arith) (st .pre .2)) (pb .put-bits .ensures))
 
 pub take-octet-spec : {M : Type 1} → statement M
 take-octet-spec =
