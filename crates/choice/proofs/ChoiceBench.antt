@@ -10,7 +10,7 @@ use Rattle.tree.specs.Fields.{codesIn, isIn, allIn, hasSpar}
 use Rattle.tree.specs.declared.Field.the-variants.{Standard}
 use Rattle.writer.specs.Minimal.{fullAtEnd, tight, subsMinimal, groupMinimal, parsMinimal, fieldMinimal}
 use Rattle.names.specs.Named.{rowsUnder, rowAt, rowOf}
-use Rattle.strike.specs.Good.{allStandard, goodField}
+use Rattle.good.specs.Good.{allStandard, goodField}
 use Rattle.choice.specs.Wishes.{wishesIn, wishesOf, standardCodes, goodRecords}
 use Rattle.choice.specs.Tables.{allInside, tablesNo}
 use Rattle.choice.specs.Choosing.{farCodes, unheard, firstSuiting, choice}

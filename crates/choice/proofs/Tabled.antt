@@ -21,7 +21,7 @@ use Rattle.message.proofs.Room.{codes-in}
 use Rattle.writer.specs.Minimal.{fieldMinimal}
 use Rattle.names.specs.Named.{namedCode, standardCode}
 use Rattle.names.proofs.Strictness.{keeps-named}
-use Rattle.strike.specs.Good.{mostStandard, allStandard, goodField}
+use Rattle.good.specs.Good.{mostStandard, allStandard, goodField}
 use Rattle.choice.specs.Wishes.{Wish, mostWishes, wishesIn, wishesOf, standardCodes, wishCodes, goodWish, goodRecords, goodWishes}
 use Rattle.choice.specs.Tables.{goodOwn, allInside, tablesNo}
 use Rattle.choice.proofs.Truths.{never, both-parts}

@@ -6,7 +6,7 @@ use mathlib.Core.List.{List, [], _∷_}
 use Rattle.octets.specs.Places.{pick}
 use Rattle.tree.specs.Fields.{allIn}
 use Rattle.writer.specs.Minimal.{both}
-use Rattle.strike.specs.Good.{goodField}
+use Rattle.good.specs.Good.{goodField}
 use Rattle.choice.specs.Wishes.{Wish, wishesOf, standardCodes, wishCodes, goodWishes}
 use Rattle.choice.specs.declared.Tables.{Tables}
 use Rattle.choice.specs.declared.Tables.the-variants.{Good, BadOwn, BadWishes, Outside}

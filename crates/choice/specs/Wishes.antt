@@ -10,7 +10,7 @@ use Rattle.octets.specs.Places.{pick}
 use Rattle.tree.specs.Fields.{codesIn, hasSpar}
 use Rattle.tree.specs.declared.Field.the-variants.{Standard}
 use Rattle.writer.specs.Minimal.{both}
-use Rattle.strike.specs.Good.{goodField}
+use Rattle.good.specs.Good.{goodField}
 
 abbrev pub mostWishes : ℕ
 mostWishes = 16

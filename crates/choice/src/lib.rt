@@ -13,7 +13,7 @@ ghost use Rattle.choice.specs.Tables.{allInside, tablesNo, tablesTold};
 ghost use Rattle.choice.specs.Choosing.{unheard, common, suits, choice, farCodes};
 ghost use Rattle.choice.specs.Judging.{verdict};
 ghost use Rattle.choice.specs.Inner.{Enters, EndsGood, farTold, wish, fitsTold};
-use strike::is_good;
+use good::is_good;
 use tree::Field;
 use tree::has_spar;
 use within::lies_within;

@@ -100,7 +100,7 @@ pub record DemandOne : Type 1 where
   pub one-reader : (run : RefT (List ℕ)) (at : ℕ) → OneReply (λ (r : BitReader). (r .run ≡ run) × (r .at ≡ at))
   -- each of these ensures `r ≡ x` for one value x of what it is given, and so has one reply:
   -- octets: bit_at, next_bit, bit_after, is_one, place_after, octet_at; tree: field_form, has_spar, top_behind, block_behind,
-  -- group_behind, bit8, base_of, is_fine; within: lies_within, has_first; message: is_known, ns_form; names: npar_places, spar_places; strike: is_good; choice:
+  -- group_behind, bit8, base_of, is_fine; within: lies_within, has_first; message: is_known, ns_form; names: npar_places, spar_places; good: is_good; choice:
   -- first_ready, first_common, judge_mode; table: act_of, kind_of, entry_of, wish_of, ack_of, is_over; station: begin
   pub one-reply : {A : Type 0} (x : A) → OneReply (λ r. r ≡ x)
   -- Refusals: a reply of read_frame whose number is not 0 leaves its output as it was

@@ -10,7 +10,7 @@ use lib.ListN.{take, drop}
 use Rattle.octets.specs.Bits.{num, AreOctets}
 use Rattle.tree.specs.Fields.{allIn}
 use Rattle.writer.specs.Minimal.{both}
-use Rattle.strike.specs.Good.{goodField}
+use Rattle.good.specs.Good.{goodField}
 use Rattle.choice.specs.Wishes.{Wish, wishesOf, standardCodes, wishCodes}
 use Rattle.choice.specs.Choosing.{Far, unheard, heard, suits}
 use Rattle.choice.specs.declared.Choice.{Choice}

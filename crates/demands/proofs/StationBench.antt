@@ -15,7 +15,7 @@ use Rattle.writer.specs.Writer.{messageOctets}
 use Rattle.writer.specs.Written.{blockFrom, run, from, positions, marked, subsWritten, lowerWritten, parWritten, parsWritten, restWritten, written}
 use Rattle.names.specs.Masks.{only}
 use Rattle.names.specs.Named.{rowsUnder, rowAt, rowOf}
-use Rattle.strike.specs.Good.{allStandard, goodField}
+use Rattle.good.specs.Good.{allStandard, goodField}
 use Rattle.strike.specs.Rewriting.{kept}
 use Rattle.choice.specs.Choosing.{firstSuiting, choice}
 use Rattle.choice.specs.Judging.{fitsSome, fitsReady, verdict}

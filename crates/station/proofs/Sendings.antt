@@ -22,9 +22,10 @@ use Rattle.message.proofs.Room.{laid-behind}
 use Rattle.writer.specs.Written.{blockFrom, run, from, positions, parsWritten, restWritten, written}
 use Rattle.writer.specs.Minimal.{both}
 use Rattle.writer.specs.Writer.{messageOctets}
-use Rattle.strike.specs.Good.{goodField}
+use Rattle.good.specs.Good.{goodField}
 use Rattle.strike.specs.Rewriting.{kept, rewritten}
-use Rattle.strike.proofs.Goodness.{good-parts, good-stays, standard-stay}
+use Rattle.good.proofs.Parts.{good-parts}
+use Rattle.strike.proofs.Goodness.{good-stays, standard-stay}
 use Rattle.strike.proofs.Bounds.{good-short}
 use Rattle.choice.specs.Wishes.{mostWishes, standardCodes, goodWishes}
 use Rattle.choice.specs.Choosing.{Far, choice}

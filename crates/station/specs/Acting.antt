@@ -14,7 +14,7 @@ use Rattle.message.specs.Reader.{listRoom, standardAt, messageCodes, readMessag
 use Rattle.names.specs.Named.{namedCode}
 use Rattle.names.specs.Masks.{only}
 use Rattle.names.specs.declared.Keep.the-variants.{All, Named}
-use Rattle.strike.specs.Good.{goodField}
+use Rattle.good.specs.Good.{goodField}
 use Rattle.strike.specs.Rewriting.{kept}
 use Rattle.choice.specs.Wishes.{wishesOf, standardCodes}
 use Rattle.choice.specs.Choosing.{Far, unheard, heard, choice}

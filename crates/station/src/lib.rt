@@ -11,7 +11,7 @@ ghost use Rattle.tree.specs.Codes.{fieldBase};
 ghost use Rattle.tree.specs.Fields.{codesIn, isIn};
 ghost use Rattle.message.specs.Kinds.{hasFields, typeOf};
 ghost use Rattle.message.specs.Reader.{listRoom, standardAt, messageCodes, readMessage, accepted};
-ghost use Rattle.strike.specs.Good.{goodField};
+ghost use Rattle.good.specs.Good.{goodField};
 ghost use Rattle.strike.specs.Rewriting.{kept};
 ghost use Rattle.choice.specs.Wishes.{wishesOf, goodWishes, standardCodes};
 ghost use Rattle.choice.specs.Choosing.{unheard, choice};

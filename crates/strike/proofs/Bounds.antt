@@ -19,9 +19,11 @@ use Rattle.writer.proofs.Trees.{Sub, sub, Par, par, Tree, tree, subPlaces, parP
 use Rattle.names.specs.Tables.{Row, nparBlocks, sparBlocks}
 use Rattle.names.specs.Named.{rowsUnder, rowAt, isStandard, standardCode}
 use Rattle.names.proofs.Rows.{row-npar, row-spar1, row-spar2}
-use Rattle.strike.specs.Good.{allStandard, goodField}
+use Rattle.good.specs.Good.{allStandard, goodField}
+use Rattle.good.proofs.Judgement.{all-split}
+use Rattle.good.proofs.Parts.{good-parts}
 use Rattle.strike.proofs.Filtering.{rising-lower, next-length, length-marked, lower-most}
-use Rattle.strike.proofs.Goodness.{good-parts, good-tree}
+use Rattle.strike.proofs.Goodness.{good-tree}
 
 -- ---- how far the standard positions reach
 
@@ -123,15 +125,6 @@ sum-next f a (suc q) h = omega (arith, sum-more f a q (omega arith))
 
 -- ---- the codes that are all standard
 
--- of two lists together each is
-all-split : (a r : List ℕ) → allStandard (a ++ r) ≡ true → (allStandard a ≡ true) × (allStandard r ≡ true)
-unfolding allStandard
-all-split [] r h = (refl, h)
-all-split (c ∷ a) r h =
-    let p = both-true (standardCode c) (allStandard (a ++ r)) h in
-    let q = all-split a r (p .1) in
-    (rw (p .0) (q .0), q .1)
-
 -- standard NPar positions under a code stand in its table's rows
 npar-below : (c lo : ℕ) (ks : List ℕ) → c % 512 ≡ 0 → Rising lo ks → allStandard (shift c ks) ≡ true → AllBelow (suc (standardEnd (rowsUnder c nparBlocks))) ks
 unfolding Rising AllBelow allStandard
@@ -226,11 +219,3 @@ good-short t o h =
     let T = treeAt t 0 in
     let good = tree-good t (omega (arith, g .short)) 0 in
     omega (arith, tree-fits (fieldBase 2) T (omega arith) good (rw (tree-codes (fieldBase 2) t 0) (g .standard)), room-s, ap length (good-tree t o g))
-
--- so what is longer is not good
-pub longer-bad : (t : List ℕ) → AreOctets t → 28 < length t → goodField t ≡ false
-longer-bad t o h = go (goodField t) refl
-  where
-    go : (b : Bool) → goodField t ≡ b → goodField t ≡ false
-    go true e = absurd (omega (arith, good-short t o e, h))
-    go false e = e

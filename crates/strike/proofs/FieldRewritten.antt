@@ -20,7 +20,7 @@ use Rattle.tree.specs.declared.Reach.{Reach}
 use Rattle.tree.proofs.Forms.{is-fine, field-fits}
 use Rattle.message.proofs.Room.{codes-in}
 use Rattle.names.specs.declared.Keep.{Keep}
-use Rattle.strike.specs.Inner.{fieldKept, Puts, Lays}
+use Rattle.strike.specs.Inner.{fieldKept, Puts}
 use Rattle.strike.specs.Rewriting.{kept, rewritten, Rewrites}
 use Rattle.strike.specs.declared.Spot.{Spot}
 use Rattle.strike.proofs.Crossing.{kept-is-written, kept-fits}
@@ -40,50 +40,40 @@ fine-in l at h = go (ltb 64 (length l)) refl h
     go false e f = (ltb-false 64 (length l) e, is-fine (fieldForm l at) f)
 
 -- what is kept of a field's codes, written, is what is put for it
-pub kept-is-put : (k : Keep) (f : Field) (l : List ℕ) (at : ℕ) → length l ≤ 64 → kept k f l at ≡ fieldKept k (baseOf f) l at
+kept-is-put : (k : Keep) (f : Field) (l : List ℕ) (at : ℕ) → length l ≤ 64 → kept k f l at ≡ fieldKept k (baseOf f) l at
 unfolding kept
 kept-is-put k f l at short = rw (codes-in f l at short) (sym (kept-is-written k l short f at))
 
 module _ (k : Keep) (f : Field) (l : List ℕ) (at : ℕ) (out : List ℕ) where
+  -- nothing is
+  rewrites-none : rewritten k f l at (length out) ≡ [] → Rewrites k f l at out 0 out
+  rewrites-none e = record { count = rw e; output = rw e (sym (put-nil out)) }
+
   -- the output is too small
   pub rewrites-small : length out < 64 → Rewrites k f l at out 0 out
   unfolding rewritten
-  rewrites-small h = let e : rewritten k f l at (length out) ≡ [] = rw (lt-ltb (length out) 64 h) in record { count = rw e; output = rw e (sym (put-nil out)) }
+  rewrites-small h = rewrites-none (rw (lt-ltb (length out) 64 h))
 
-  -- the field is not well-formed
-  pub lays-none : isFine (formIn l at) ≡ false → Lays (rewritten k f l at 64) out 0 out
-  unfolding rewritten
-  lays-none h = let e : rewritten k f l at 64 ≡ [] = rw h in record { count = rw e; output = rw e (sym (put-nil out)) }
-
-  module _ (fine : isFine (formIn l at) ≡ true) where
-    -- what is kept of a well-formed field is no longer than its octets, and these are no longer than a message
-    pub kept-short : AreOctets l → (length (fieldKept k (baseOf f) l at) ≤ length l) × (length l ≤ 64)
-    kept-short o =
-        let x = fine-in l at fine in
-        let y = field-fits l at (x .1) in
-        (omega (arith, y, kept-fits k l (x .0) f at o (x .1)), x .0)
-
-    -- it is put where there is room for it
-    pub field-room : length (fieldKept k (baseOf f) l at) ≤ length out → (length l ≤ 64) × (at ≤ length l) × (0 + length (fieldKept k (baseOf f) l at) ≤ length out)
-    field-room room =
-        let x = fine-in l at fine in
-        let y = field-fits l at (x .1) in
-        (x .0, omega (arith, y), omega arith)
-
-    -- and is the answer
-    pub lays-fine : (out₁ : List ℕ) (e : ℕ) (r : Spot) → length (fieldKept k (baseOf f) l at) ≤ length out → Puts (fieldKept k (baseOf f) l at) e out 0 out₁ r
-        → Lays (rewritten k f l at 64) out (r .to) out₁
+  module _ (room : 64 ≤ length out) where
+    -- the field is not well-formed
+    pub rewrites-bad : isFine (formIn l at) ≡ false → Rewrites k f l at out 0 out
     unfolding rewritten
-    lays-fine out₁ e r room p =
-        let all : rewritten k f l at 64 ≡ fieldKept k (baseOf f) l at = rw fine (kept-is-put k f l at (fine-in l at fine .0)) in
-        record {
-          count = rw all (omega (arith, p .at));
-          output = rw all (p .out ∙ sets-front out (fieldKept k (baseOf f) l at) (omega (arith, room)));
-        }
+    rewrites-bad h = rewrites-none (rw (le-ltb (length out) 64 room, h))
 
-  -- an output with room for a message is as good as one of 64 octets
-  pub rewrites-lays : (n : ℕ) (out₁ : List ℕ) → 64 ≤ length out → Lays (rewritten k f l at 64) out n out₁ → Rewrites k f l at out n out₁
-  unfolding rewritten
-  rewrites-lays n out₁ h a =
-      let e : rewritten k f l at (length out) ≡ rewritten k f l at 64 = rw (le-ltb (length out) 64 h) in
-      record { count = a .count ∙ ap length (sym e); output = a .output ∙ rw e }
+    module _ (octets : AreOctets l) (fine : isFine (formIn l at) ≡ true) where
+      -- it is, and an output with room for a message has room for what is kept of it
+      pub field-room : (length l ≤ 64) × (at ≤ length l) × (0 + length (fieldKept k (baseOf f) l at) ≤ length out)
+      field-room =
+          let x = fine-in l at fine in
+          let y = field-fits l at (x .1) in
+          (x .0, omega (arith, y), omega (arith, y, x .0, kept-fits k l (x .0) f at octets (x .1)))
+
+      -- which is the answer
+      pub rewrites-fine : (out₁ : List ℕ) (e : ℕ) (r : Spot) → Puts (fieldKept k (baseOf f) l at) e out 0 out₁ r → Rewrites k f l at out (r .to) out₁
+      unfolding rewritten
+      rewrites-fine out₁ e r p =
+          let all : rewritten k f l at (length out) ≡ fieldKept k (baseOf f) l at = rw (le-ltb (length out) 64 room, fine) (kept-is-put k f l at (fine-in l at fine .0)) in
+          record {
+            count = rw all (omega (arith, p .at));
+            output = rw all (p .out ∙ sets-front out (fieldKept k (baseOf f) l at) (omega (arith, field-room .2)));
+          }

@@ -13,6 +13,5 @@ pub mod StrikingForm
 pub mod StrikingMeaning
 pub mod StrikingUnique
 pub mod StrikingBench
-pub mod Sameness
 pub mod Goodness
 pub mod Bounds

@@ -2,13 +2,11 @@
 -- SPar is not kept is passed over whole. Inner: no public contract cites it; one law says that it is `kept`.
 -- Assumes nothing.
 use Prim.Native.Nat.{ℕ, _+_, _*_}
-use mathlib.Core.Bool.{Bool}
 use mathlib.Core.List.{List, [], _∷_, _++_}
 use mathlib.Core.Path.{_≡_}
 use lib.Dec.{eqb}
 use lib.ListN.{length}
 use lib.Seq.{sets}
-use Rattle.octets.specs.Lay.{put}
 use Rattle.octets.specs.Places.{pick}
 use Rattle.tree.specs.Block.{numbers, behind, ended}
 use Rattle.tree.specs.Codes.{groupBehind}
@@ -73,8 +71,3 @@ pub record Puts (octets : List ℕ) (from : ℕ) (out₀ : List ℕ) (to : ℕ) 
   pub read : r .from ≡ from
   pub at : r .to ≡ to + length octets
   pub out : out₁ ≡ sets out₀ to octets
-
--- octets were put at the front of the output, so many
-pub record Lays (octets out₀ : List ℕ) (n : ℕ) (out₁ : List ℕ) : Type 0 where
-  pub count : n ≡ length octets
-  pub output : out₁ ≡ put octets out₀

@@ -1,4 +1,3 @@
 pub mod Rewriting
 pub mod Striking
-pub mod Good
 pub mod Inner

@@ -1,25 +1,20 @@
 // Striking (document 01, "Striking"): a field is rewritten block by block with what is kept of it, so that no list of numbers is
-// ever held; a message is struck; a field that an own table or a wish may hold is known by its being left as it is.
+// ever held; and a message is struck.
 ghost use mathlib.Core.Path.{_≡_};
-ghost use mathlib.Core.Bool.{true, false};
-ghost use mathlib.Core.List.{_++_};
 ghost use Prim.Native.Nat.{_+_, _-_, _*_, _/_, _%_, _^_, _≤_, _<_};
 ghost use lib.ListN.{length, set, getD, drop};
 ghost use lib.Seq.{sets};
 ghost use Rattle.octets.specs.Lay.{put};
-ghost use Rattle.octets.specs.Places.{pick};
 ghost use Rattle.tree.specs.Block.{setBits, numbers, behind};
 ghost use Rattle.tree.specs.Codes.{groupBehind, parsBehind, subsBehind, fieldBehind};
-ghost use Rattle.tree.specs.Form.{isFine};
-ghost use Rattle.tree.specs.Fields.{baseOf, formIn};
-ghost use Rattle.message.specs.Kinds.{hasFields, typeOf};
+ghost use Rattle.tree.specs.Fields.{baseOf};
+ghost use Rattle.message.specs.Kinds.{typeOf};
 ghost use Rattle.message.specs.Reader.{mostOctets, listRoom, standardAt, tailAt, readMessage, accepted};
 ghost use Rattle.writer.specs.Writer.{isEmpty};
 ghost use Rattle.names.specs.Masks.{keptPlace, only};
-ghost use Rattle.strike.specs.Rewriting.{rewritten, Rewrites};
+ghost use Rattle.strike.specs.Rewriting.{Rewrites};
 ghost use Rattle.strike.specs.Striking.{struckForm, Strikes};
-ghost use Rattle.strike.specs.Good.{goodField, same};
-ghost use Rattle.strike.specs.Inner.{sieved, blockKept, subKept, subsKept, lowerKept, groupKept, wholePar, parKept, parsKept, fieldKept, standardKeep, Puts, Lays};
+ghost use Rattle.strike.specs.Inner.{sieved, blockKept, subKept, subsKept, groupKept, wholePar, parKept, parsKept, fieldKept, standardKeep, Puts};
 use message::MessageCheck;
 use message::check_message;
 use names::Keep;
@@ -36,9 +31,6 @@ use tree::is_fine;
 
 // The octets of the longest message.
 const MOST_OCTETS: usize = 64;
-
-// The octets of the longest standard field that is good. Document 01 allows 61, but there are not so many named parameters.
-const MOST_GOOD: usize = 28;
 
 // How far reading and writing have come.
 pub struct Spot {
@@ -364,21 +356,6 @@ fn put_field(s: &[u8], at: usize, field: Field, keep: Keep, out: &mut [u8], to: 
     put_pars(s, keep, base, spars, from, second, out)
 }
 
-// Rewrites the field at a place with what is kept of it, in minimal form, where there is room for that, and gives how many octets that
-// are: none where the field is not well-formed.
-fn rewrite_into(s: &[u8], at: usize, field: Field, keep: Keep, out: &mut [u8]) -> usize
-    requires { ⌜ (isFine (formIn (now s) at) ≡ true → length (fieldKept keep (baseOf field) (now s) at) ≤ length (now out)) ⌝ }
-    ensures { λ r. ⌜ Lays (rewritten keep field (now (s .entry)) at mostOctets) (now (out .entry)) r (now (out .exit)) ⌝ }
-{
-    let reach = field_form(s, at);
-    let form = reach.form;
-    if !is_fine(form) {
-        return 0;
-    }
-    let end = put_field(s, at, field, keep, out, 0);
-    end.to
-}
-
 // Rewrites the field at a place with what is kept of it, in minimal form, and gives how many octets that are: none where the field is
 // not well-formed or the output has under 64 octets.
 pub fn rewrite_field(s: &[u8], at: usize, field: Field, keep: Keep, out: &mut [u8]) -> usize
@@ -387,7 +364,13 @@ pub fn rewrite_field(s: &[u8], at: usize, field: Field, keep: Keep, out: &mut [u
     if out.len() < MOST_OCTETS {
         return 0;
     }
-    rewrite_into(s, at, field, keep, out)
+    let reach = field_form(s, at);
+    let form = reach.form;
+    if !is_fine(form) {
+        return 0;
+    }
+    let end = put_field(s, at, field, keep, out, 0);
+    end.to
 }
 
 // What is kept of the standard field of a message of a type: all of an MS, else the named.
@@ -445,37 +428,4 @@ pub fn strike_message(s: &[u8], out: &mut [u8]) -> Struck
         MessageCheck::UnknownType => Struck::UnknownType,
         MessageCheck::Malformed => Struck::Malformed,
     }
-}
-
-// Whether two runs are the same.
-fn are_same(a: &[u8], b: &[u8]) -> bool
-    ensures { λ r. ⌜ r ≡ same (now (a .entry)) (now (b .entry)) ⌝ }
-{
-    if a.len() != b.len() {
-        return false;
-    }
-    let mut i = 0usize;
-    while i < a.len() {
-        if a[i] != b[i] {
-            return false;
-        }
-        i += 1;
-    }
-    true
-}
-
-// Whether octets are a standard field that an own table or a wish may hold: rewriting it with the named standard parameters leaves
-// it as it is.
-pub fn is_good(t: &[u8]) -> bool
-    ensures { λ r. ⌜ r ≡ goodField (now (t .entry)) ⌝ }
-{
-    if MOST_GOOD < t.len() {
-        return false;
-    }
-    if t.len() == 0 {
-        return false;
-    }
-    let mut octets = [0u8; 28];
-    let count = rewrite_into(t, 0, Field::Standard, Keep::Standard, &mut octets);
-    are_same(t, &octets[0..count])
 }

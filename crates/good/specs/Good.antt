@@ -2,11 +2,10 @@
 -- in minimal form, at most 61 octets, with named parameters only and no non-standard bit.
 -- Assumes nothing.
 use Prim.Native.Nat.{ℕ}
-use mathlib.Core.Bool.{Bool, true, false}
+use mathlib.Core.Bool.{Bool, true}
 use mathlib.Core.List.{List, [], _∷_}
 use lib.Dec.{leb, eqb}
 use lib.ListN.{length}
-use Rattle.octets.specs.Places.{pick}
 use Rattle.tree.specs.Codes.{fieldBase, fieldCodes, fieldBehind}
 use Rattle.tree.specs.Form.{isFine, fieldForm}
 use Rattle.writer.specs.Minimal.{both, fieldMinimal}
@@ -27,10 +26,3 @@ goodField t =
     (both (eqb (fieldBehind t 0) (length t))
     (both (fieldMinimal t 0)
     (allStandard (fieldCodes (fieldBase 2) t 0)))))
-
--- two runs are the same, octet for octet
-unfoldable pub same : List ℕ → List ℕ → Bool
-same [] [] = true
-same [] (y ∷ b) = false
-same (x ∷ a) [] = false
-same (x ∷ a) (y ∷ b) = both (eqb x y) (same a b)

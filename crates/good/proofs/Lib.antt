@@ -1,0 +1,5 @@
+pub mod Allowed
+pub mod Grouping
+pub mod Judgement
+pub mod Stepping
+pub mod Parts

@@ -1,0 +1,32 @@
+-- `good::sub_good` meets its contract: bit 8 before the block, or the block and bit 8 in its last octet.
+-- Assumes nothing.
+use mathlib.Core.Path.{sym, _∙_}
+use borrow.Author.Needs.{needs}
+use Rattle.good.proofs.Stepping.{sub-marked, sub-ended, sub-open}
+use Rattle.good.proofs.sub_good.Statement.{statement}
+use Rattle.good.proofs.sub_good.Tie as tie
+
+bit8-requires : tie.Need-bit8-requires
+bit8-requires c κs = search needs
+
+returns : tie.Need-returns
+returns c = let b = c .before in sub-marked _ _ _ (sym (b .bit8 .ensures) ∙ c .if1 .taken)
+
+block-good-requires : tie.Need-block-good-requires
+block-good-requires c κs = search needs
+
+bit8-requires-2 : tie.Need-bit8-requires-2
+bit8-requires-2 c κs = search needs
+
+returns-2 : tie.Need-returns-2
+returns-2 c = let g = c .before .before in let b = g .before in
+    sub-ended _ _ _ (sym (b .before .bit8 .ensures) ∙ b .if1 .left) (g .block-good .ensures) (sym (c .before .bit82 .ensures) ∙ c .if2 .taken)
+
+returns-3 : tie.Need-returns-3
+returns-3 c = let g = c .before .before in let b = g .before in
+    sub-open _ _ _ (sym (b .before .bit8 .ensures) ∙ b .if1 .left) (g .block-good .ensures) (sym (c .before .bit82 .ensures) ∙ c .if2 .left)
+
+pub sub-good-spec : {M : Type 1} → statement M
+sub-good-spec =
+    tie.close
+    (tie.spec bit8-requires returns block-good-requires bit8-requires-2 returns-2 returns-3)
