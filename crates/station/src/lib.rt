@@ -493,13 +493,15 @@ fn perform(
     requires { ⌜ (needsField act ≡ true → Standing (now m) standard) × (goodField (now own) ≡ true) × (goodWishes (now run) ≡ true) × (128 ≤ length (now out)) × (64 ≤ length (now store)) ⌝ }
     ensures { λ r. ⌜ Did (does act phase set (now (own .entry)) (now (run .entry)) (now (m .entry)) time) (now (out .entry)) (now (store .entry)) r (now (out .exit)) (now (store .exit)) ⌝ }
 {
+    let done = Told::Done;
+    let silent = Sends::NoSignal;
     match act {
-        Act::NoRow => answer(Told::NotInTable, Sends::NoSignal, 0, 0, 0, phase),
-        Act::SendMrE => answer(Told::Done, Sends::SendsMrE, 0, 0, 0, Phase::AskedE(time)),
-        Act::SendMrD => answer(Told::Done, Sends::SendsMrD, 0, 0, 0, Phase::AskedD(time)),
-        Act::CounterMrD => answer(Told::Done, Sends::SendsMrD, 0, 0, 0, Phase::Counter(time)),
-        Act::SendCrE => answer(Told::Done, Sends::SendsCrE, 0, 0, 0, Phase::ListsE(time)),
-        Act::SendCrD => answer(Told::Done, Sends::SendsCrD, 0, 0, 0, Phase::ListsD(time)),
+        Act::NoRow => answer(Told::NotInTable, silent, 0, 0, 0, phase),
+        Act::SendMrE => answer(done, Sends::SendsMrE, 0, 0, 0, Phase::AskedE(time)),
+        Act::SendMrD => answer(done, Sends::SendsMrD, 0, 0, 0, Phase::AskedD(time)),
+        Act::CounterMrD => answer(done, Sends::SendsMrD, 0, 0, 0, Phase::Counter(time)),
+        Act::SendCrE => answer(done, Sends::SendsCrE, 0, 0, 0, Phase::ListsE(time)),
+        Act::SendCrD => answer(done, Sends::SendsCrD, 0, 0, 0, Phase::ListsD(time)),
         Act::Propose => propose_first(set, run, time, out),
         Act::SendCl => send_list(2, set, own, 0, Phase::Listed(time), out),
         Act::SendClr => send_list(3, set, own, 0, Phase::Traded(time), out),
@@ -507,7 +509,7 @@ fn perform(
         Act::Take(after) => take_list(after, set, own, run, m, standard, time, out, store),
         Act::Judge => judge(run, m, standard, time, out, store),
         Act::Agree => agree(phase, time),
-        Act::GiveUp => answer(Told::Done, Sends::NoSignal, 0, 0, 0, Phase::Initial(time)),
+        Act::GiveUp => answer(done, silent, 0, 0, 0, Phase::Initial(time)),
         Act::SendNak1 => send_octet(SENT_NAK, 0, Phase::Initial(time), out),
     }
 }
@@ -650,23 +652,17 @@ fn timed_step(
     requires { ⌜ (goodField (now own) ≡ true) × (goodWishes (now run) ≡ true) × (128 ≤ length (now out)) × (64 ≤ length (now store)) ⌝ }
     ensures { λ r. ⌜ Did (timed phase set (now (own .entry)) (now (run .entry)) event (now (m .entry)) time) (now (out .entry)) (now (store .entry)) r (now (out .exit)) (now (store .exit)) ⌝ }
 {
+    let silent = Sends::NoSignal;
     let entry = entry_of(phase);
     let kind = kind_of(phase);
     if time < entry {
-        return answer(Told::TimeBefore, Sends::NoSignal, 0, 0, 0, phase);
+        return answer(Told::TimeBefore, silent, 0, 0, 0, phase);
     }
     if is_late(kind, entry, time) {
-        return answer(
-            Told::TimedOut,
-            Sends::NoSignal,
-            0,
-            0,
-            0,
-            Phase::Initial(time),
-        );
+        return answer(Told::TimedOut, silent, 0, 0, 0, Phase::Initial(time));
     }
     if is_mode(kind) {
-        return answer(Told::NotInTable, Sends::NoSignal, 0, 0, 0, phase);
+        return answer(Told::NotInTable, silent, 0, 0, 0, phase);
     }
     sorted_step(phase, set, own, run, event, m, time, out, store)
 }
@@ -685,17 +681,18 @@ fn checked_step(
 ) -> Stepped
     ensures { λ r. ⌜ Did (checked phase set (now (own .entry)) (now (run .entry)) event (now (m .entry)) time (length (now (out .entry))) (length (now (store .entry)))) (now (out .entry)) (now (store .entry)) r (now (out .exit)) (now (store .exit)) ⌝ }
 {
+    let silent = Sends::NoSignal;
     if out.len() < OUTPUT_ROOM {
-        return answer(Told::SmallBuffers, Sends::NoSignal, 0, 0, 0, phase);
+        return answer(Told::SmallBuffers, silent, 0, 0, 0, phase);
     }
     if store.len() < STORE_ROOM {
-        return answer(Told::SmallBuffers, Sends::NoSignal, 0, 0, 0, phase);
+        return answer(Told::SmallBuffers, silent, 0, 0, 0, phase);
     }
     match check_tables(own, run) {
         Tables::Good => timed_step(phase, set, own, run, event, m, time, out, store),
-        Tables::BadOwn => answer(Told::BadOwn, Sends::NoSignal, 0, 0, 0, phase),
-        Tables::BadWishes => answer(Told::BadWishes, Sends::NoSignal, 0, 0, 0, phase),
-        Tables::Outside => answer(Told::Outside, Sends::NoSignal, 0, 0, 0, phase),
+        Tables::BadOwn => answer(Told::BadOwn, silent, 0, 0, 0, phase),
+        Tables::BadWishes => answer(Told::BadWishes, silent, 0, 0, 0, phase),
+        Tables::Outside => answer(Told::Outside, silent, 0, 0, 0, phase),
     }
 }
 

@@ -399,21 +399,22 @@ pub fn act_of(kind: Kind, set: Settings, asked: bool, heard: Heard) -> Act
 {
     let mrd = set.mrd;
     let crd = set.crd;
+    let none = Act::NoRow;
     let ms = Act::Take(After::ThenMs);
     let both = Act::Take(After::ThenClMs);
     let half = Act::Take(After::ThenHalf);
     match kind {
         Kind::AtInitial => initial_act(set, heard),
         Kind::AtAskedE => row_act(row_of_ms(on_mr_d(mrd), on_cr_d(crd)), heard),
-        Kind::AtAskedD => row_act(row_of_ms(Act::NoRow, Act::NoRow), heard),
+        Kind::AtAskedD => row_act(row_of_ms(none, none), heard),
         Kind::AtListsE => row_act(row_of_lists(on_cr_d(crd), ms, both), heard),
-        Kind::AtListsD => row_act(row_of_lists(Act::NoRow, ms, both), heard),
-        Kind::AtCounter => row_act(row_of_ms(Act::NoRow, on_cr_d(crd)), heard),
-        Kind::AtListed => row_act(row_of_ms(Act::NoRow, Act::NoRow), heard),
-        Kind::AtTraded => row_act(row_of_lists(Act::NoRow, ms, Act::NoRow), heard),
-        Kind::AtPair => row_act(row_of_lists(Act::NoRow, half, Act::NoRow), heard),
-        Kind::AtHalf => row_act(row_of_ms(Act::NoRow, Act::NoRow), heard),
+        Kind::AtListsD => row_act(row_of_lists(none, ms, both), heard),
+        Kind::AtCounter => row_act(row_of_ms(none, on_cr_d(crd)), heard),
+        Kind::AtListed => row_act(row_of_ms(none, none), heard),
+        Kind::AtTraded => row_act(row_of_lists(none, ms, none), heard),
+        Kind::AtPair => row_act(row_of_lists(none, half, none), heard),
+        Kind::AtHalf => row_act(row_of_ms(none, none), heard),
         Kind::AtProposed => row_act(row_of_proposed(asked), heard),
-        Kind::AtMode => Act::NoRow,
+        Kind::AtMode => none,
     }
 }

@@ -156,7 +156,6 @@ met-first x c l h u = go (eqb c x) (isIn x l) refl
     go false true e = absurd (omega (arith, in-above c x l u e))
     go false false e = sym e
 
-
 -- ---- parents
 
 -- p is the highest multiple of m that is not above c
