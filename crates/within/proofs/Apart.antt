@@ -6,6 +6,7 @@ use mathlib.Core.List.{List, [], _∷_, _++_}
 use mathlib.Core.Path.{_≡_, refl, _∙_}
 use native.Mathlib.Omega.{arith}
 use borrow.Author.Tests.{eq-eqb, ne-eqb}
+use lib.Dec.{eqb}
 use Rattle.octets.specs.Places.{pick}
 use Rattle.tree.specs.Order.{Ascending, AllBelow, AllFrom}
 use Rattle.tree.specs.Fields.{isIn, allIn}
@@ -33,10 +34,20 @@ from-ascending h b (x ∷ l) k a = (omega (arith, a .0), from-ascending h x l (o
 -- ---- one number
 
 -- one below the bound is not in a list that is not below it
-in-none : (x h : ℕ) (l : List ℕ) → x < h → AllFrom h l → isIn x l ≡ false
+pub in-none : (x h : ℕ) (l : List ℕ) → x < h → AllFrom h l → isIn x l ≡ false
 unfolding isIn AllFrom
 in-none x h [] k a = refl
 in-none x h (y ∷ l) k a = rw (ne-eqb y x (λ (e : y ≡ x). omega (arith, a .0))) (in-none x h l k (a .1))
+
+-- in two lists together it is in one of them
+pub in-append : (x : ℕ) (a b : List ℕ) → isIn x (a ++ b) ≡ pick (isIn x a) true (isIn x b)
+unfolding isIn
+in-append x [] b = refl
+in-append x (y ∷ a) b = go (eqb y x) (in-append x a b)
+  where
+    go : (t : Bool) → isIn x (a ++ b) ≡ pick (isIn x a) true (isIn x b) → pick t true (isIn x (a ++ b)) ≡ pick (pick t true (isIn x a)) true (isIn x b)
+    go true e = refl
+    go false e = e
 
 -- so with such a list behind another it is looked for in the other
 pub in-front : (x h : ℕ) (a b : List ℕ) → x < h → AllFrom h b → isIn x (a ++ b) ≡ isIn x a
@@ -72,6 +83,17 @@ all-append (x ∷ a) b m = go (isIn x m) (all-append a b m)
         → pick t (allIn (a ++ b) m) false ≡ pick (pick t (allIn a m) false) (allIn b m) false
     go true e = e
     go false e = refl
+
+-- two tests that hold
+pub both : (s t : Bool) → pick s t false ≡ true → (s ≡ true) × (t ≡ true)
+both true t e = (refl, e)
+both false t e = (cc, cc)
+
+-- what is within nothing is nothing
+pub none-within : (a : List ℕ) → allIn a [] ≡ true → a ≡ []
+unfolding allIn isIn
+none-within [] e = refl
+none-within (x ∷ a) e = cc
 
 -- the parts below the bound and the parts behind are compared each for itself
 pub parts-within : (h : ℕ) (a b m n : List ℕ) → AllBelow h a → AllFrom h b → AllBelow h m → AllFrom h n

@@ -2,104 +2,205 @@
 -- Assumes nothing.
 use Prim.Native.Nat.{ℕ, _+_, _*_, _%_, _^_, _≤_, _<_}
 use mathlib.Core.Bool.{Bool, true, false}
-use mathlib.Core.List.{List, []}
-use mathlib.Core.Logic.{_⊎_, ⊎-elim}
+use mathlib.Core.List.{List, [], _∷_}
 use mathlib.Core.Path.{_≡_, refl, sym, _∙_}
 use native.Mathlib.Omega.{arith}
 use borrow.Author.Tests.{le-ltb, lt-ltb, eq-eqb, ne-eqb}
-use lib.Bits.{bitAnd}
-use lib.Dec.{eqb}
-use lib.ListN.{length}
+use lib.Bits.{bitAnd, and-zero-r}
+use lib.ListN.{length, getD, List·getD-eq-default}
 use Rattle.octets.specs.Places.{pick}
 use Rattle.tree.specs.Block.{setBits, blockNumbers, blockEnd, numbers, behind, ended}
-use Rattle.tree.specs.Codes.{subCodes, groupCodes, parCodes, restCodes, fieldCodes}
+use Rattle.tree.specs.Codes.{subCodes, subsBehind, groupCodes, groupBehind, parCodes, restCodes, fieldCodes}
 use Rattle.tree.specs.Order.{AllFrom}
-use Rattle.within.specs.Pairing.{BlockWithin, OctetWithin, AllWithin, SubsWithin, GroupWithin, ParsWithin, FieldWithin}
-use Rattle.tree.specs.Fields.{baseOf, codesIn, allIn}
+use Rattle.within.specs.Pairing.{nextPlace, Compared, BlockWithin, BlockEmpty, subs, pars, AllWithin, GroupWithin, FieldWithin}
+use Rattle.tree.specs.Fields.{baseOf, codesIn, isIn, allIn}
 use Rattle.tree.specs.declared.Field.{Field}
 use Rattle.within.specs.declared.Paired.{Paired}
-use Rattle.within.proofs.Apart.{from-lower, from-ascending, parts-within, first-within}
+use Rattle.within.proofs.Apart.{from-lower, from-ascending, none-within, parts-within, first-within}
 use Rattle.tree.proofs.Ascending.{bits-between, numbers-between, numbers-ascending, sub-between, par-between, group-above}
+use Rattle.tree.proofs.Forms.{behind-stop, behind-go, behind-out}
 use Rattle.within.proofs.Stepping.{subOne, parOne, pars-stepped, many-from}
-use Rattle.within.proofs.Taking.{bits-within, numbers-out}
+use Rattle.within.proofs.Taking.{bits-within, numbers-out, numbers-next, place-on, place-end, place-out}
 
 -- ---- a block alone
 
--- its positions announce nothing, so that no places are held
-abbrev pub plainly : ℕ → List ℕ → ℕ → List ℕ
-plainly c qs e = qs
+-- of the two blocks as many octets were looked at, all found, and those at i and j are next
+pub record BlockPairing (w m : ℕ) (l : List ℕ) (e : ℕ) (t : List ℕ) (k i j : ℕ) : Type 0 where
+  pub same : (p : ℕ) → (q : ℕ) × (allIn (numbers w m p l e) (numbers w m p t k) ≡ allIn (numbers w m q l i) (numbers w m q t j))
+  pub from : behind m l e ≡ behind m l i
+  pub to : behind m t k ≡ behind m t j
 
-abbrev pub at-none : Bool → Paired
-at-none t = record { fits = t; from = 0; to = 0 }
+module _ {w m : ℕ} {l : List ℕ} {e : ℕ} {t : List ℕ} {k : ℕ} where
+  -- none was looked at yet
+  pub block-start : BlockPairing w m l e t k e k
+  block-start = record { same = λ p. (p, refl); from = refl; to = refl }
 
-pub block-plain : {w m : ℕ} {l : List ℕ} {e : ℕ} {t : List ℕ} {k : ℕ} {r : Bool} → AllWithin plainly plainly w m l e t k (at-none true) r → BlockWithin w m l e t k r
-block-plain x = record { told = λ p. x .told 0 p }
+  module _ {i j : ℕ} (z : BlockPairing w m l e t k i j) where
+    -- the first has no more
+    pub block-done : length l ≤ i → {r : Paired} → r .fits ≡ true → r .from ≡ i → r .to ≡ behind m t j → BlockWithin w m l e t k r
+    unfolding allIn
+    block-done h f n o = record {
+      told = λ p. let s = z .same p in f ∙ sym (s .1 ∙ rw (numbers-out w m (s .0) l i h));
+      from = λ v. n ∙ sym (z .from ∙ behind-out m i l h);
+      to = λ v. o ∙ sym (z .to);
+    }
 
--- one octet in another
-octet-plain : (w m a b : ℕ) (r : Bool) → m ≡ 2 ^ w → eqb (bitAnd (a % m) b) (a % m) ≡ r → OctetWithin plainly plainly w a b (at-none true) (at-none r)
-octet-plain w m a b r h e = record {
-  told = λ c p. record {
-    same = λ more more′ f g.
-        parts-within (p + w + 1) (setBits w p a) more (setBits w p b) more′ (bits-between w p a .1) f (bits-between w p b .1) g
-        ∙ rw (bits-within w p a b, ← h, e);
-  };
+    -- an octet of each is looked at
+    module _ (h : m ≡ 2 ^ w) where
+      abbrev a : ℕ
+      a = getD l i 0
+
+      abbrev b : ℕ
+      b = getD t j 0
+
+      octets-parts : (q : ℕ) → allIn (numbers w m q l i) (numbers w m q t j)
+          ≡ pick (allIn (setBits w q a) (setBits w q b)) (allIn (numbers w m (q + w) l (nextPlace m l i)) (numbers w m (q + w) t (nextPlace m t j))) false
+      octets-parts q =
+          rw (numbers-next w m q l i, numbers-next w m q t j)
+          (parts-within (q + w + 1) (setBits w q a) _ (setBits w q b) _ (bits-between w q a .1) (behind-octet l (nextPlace m l i)) (bits-between w q b .1) (behind-octet t (nextPlace m t j)))
+        where
+          behind-octet : (o : List ℕ) (f : ℕ) → AllFrom (q + w + 1) (numbers w m (q + w) o f)
+          behind-octet o f = from-ascending (q + w + 1) (q + w) _ (omega arith) (numbers-ascending w m (q + w) o f)
+
+      -- something is lost under the other
+      pub block-lost : (bitAnd (a % m) b ≡ a % m → ⊥) → {r : Paired} → r .fits ≡ false → BlockWithin w m l e t k r
+      block-lost x f = record {
+        told = λ p. let s = z .same p in f ∙ sym (s .1 ∙ octets-parts (s .0) ∙ rw (bits-within w (s .0) a b, ← h, ne-eqb _ _ x));
+        from = λ n. cc;
+        to = λ n. cc;
+      }
+
+      -- nothing is
+      module _ (x : bitAnd (a % m) b ≡ a % m) where
+        block-on : (p : ℕ) →
+            let q = z .same p .0 + w in
+            allIn (numbers w m p l e) (numbers w m p t k) ≡ allIn (numbers w m q l (nextPlace m l i)) (numbers w m q t (nextPlace m t j))
+        block-on p = let s = z .same p in s .1 ∙ octets-parts (s .0) ∙ rw (bits-within w (s .0) a b, ← h, eq-eqb _ _ x)
+
+        module _ (some : i < length l) where
+          -- the first ends there
+          pub block-last : m ≤ a → {r : Paired} → r .fits ≡ true → r .from ≡ i + 1 → r .to ≡ behind m t j → BlockWithin w m l e t k r
+          unfolding allIn
+          block-last o f n v = record {
+            told = λ p. f ∙ sym (block-on p ∙ rw (place-end m l i o, numbers-out w m (z .same p .0 + w) l (length l) (omega arith)));
+            from = λ y. n ∙ sym (z .from ∙ behind-stop m i l some o);
+            to = λ y. v ∙ sym (z .to);
+          }
+
+          module _ (less : a < m) where
+            -- only the second does
+            pub block-rest : j < length t → m ≤ b → {r : Paired} → BlockEmpty w m l (i + 1) (j + 1) r → BlockWithin w m l e t k r
+            block-rest there o y = record {
+              told = λ p.
+                  let q = z .same p .0 + w in
+                  y .told q ∙ sym (block-on p ∙ rw (place-on m l i some less, place-end m t j o, numbers-out w m q t (length t) (omega arith)));
+              from = λ n. y .from n ∙ sym (z .from ∙ behind-go m i l some less);
+              to = λ n. y .to n ∙ sym (z .to ∙ behind-stop m j t there o);
+            }
+
+            -- both go on
+            pub block-turn : j < length t → b < m → BlockPairing w m l e t k (i + 1) (j + 1)
+            block-turn there o = record {
+              same = λ p. (z .same p .0 + w, block-on p ∙ rw (place-on m l i some less, place-on m t j there o));
+              from = z .from ∙ behind-go m i l some less;
+              to = z .to ∙ behind-go m j t there o;
+            }
+
+            -- the second has no more
+            pub block-alone : length t ≤ j → BlockPairing w m l e t k (i + 1) j
+            block-alone o = record {
+              same = λ p.
+                  let q = z .same p .0 + w in
+                  (q, block-on p ∙ rw (place-on m l i some less, place-out m t j o, numbers-out w m q t (length t) (omega arith), numbers-out w m q t j o));
+              from = z .from ∙ behind-go m i l some less;
+              to = z .to;
+            }
+
+-- ---- a block where the second has none: it is held beside no octets
+
+-- a place there is behind any block
+pub empty-behind : (m k : ℕ) → k ≡ behind m [] k
+empty-behind m k = sym (behind-out m k [] (omega arith))
+
+pub empty-whole : (w m : ℕ) (l : List ℕ) (e k : ℕ) {r : Paired} → BlockWithin w m l e [] k r → BlockEmpty w m l e k r
+empty-whole w m l e k x = record {
+  told = λ p. x .told p ∙ rw (numbers-out w m p [] k (omega arith));
+  from = x .from;
+  to = λ n. x .to n ∙ sym (empty-behind m k);
 }
 
-module _ (w m a b : ℕ) (h : m ≡ 2 ^ w) where
-  -- something is lost under the other, or nothing
-  pub octet-lost : (bitAnd (a % m) b ≡ a % m → ⊥) → OctetWithin plainly plainly w a b (at-none true) (at-none false)
-  octet-lost e = octet-plain w m a b false h (ne-eqb (bitAnd (a % m) b) (a % m) e)
+-- all of an octet is found there exactly if nothing is set in it
+under-none : (o k : ℕ) → bitAnd o (getD [] k 0) ≡ 0
+under-none o k =
+    let out : length {A = ℕ} [] ≤ k = omega arith in
+    rw (List·getD-eq-default {A = ℕ} [] 0 out, and-zero-r o)
 
-  pub octet-found : bitAnd (a % m) b ≡ a % m → OctetWithin plainly plainly w a b (at-none true) (at-none true)
-  octet-found e = octet-plain w m a b true h (eq-eqb (bitAnd (a % m) b) (a % m) e)
+pub empty-found : (m o k : ℕ) → o % m ≡ 0 → bitAnd (o % m) (getD [] k 0) ≡ o % m
+empty-found m o k h = under-none (o % m) k ∙ sym h
+
+pub empty-lost : (m o k : ℕ) → (o % m ≡ 0 → ⊥) → bitAnd (o % m) (getD [] k 0) ≡ o % m → ⊥
+empty-lost m o k h x = h (sym x ∙ under-none (o % m) k)
 
 -- ---- what one position announces
 
-module _ (l t : List ℕ) (h : length l ≤ 64) (h′ : length t ≤ 64) (e k : ℕ) where
+module _ (l t : List ℕ) (h : length l ≤ 64) (h′ : length t ≤ 64) (e k : ℕ) {r : Paired} (x : BlockWithin 6 64 l e t k r) where
   -- the NPar(3) block of an SPar(2) position
-  pub sub-found : {r : Bool} → BlockWithin 6 64 l e t k r → (c q : ℕ) → r ≡ allIn (subOne l c q e) (subOne t c q k)
-  sub-found x c q =
-      let y = c + q * 512 in
-      x .told y ∙ sym (first-within y (numbers 6 64 y l e) (numbers 6 64 y t k) (sub-between y l e h .0) (sub-between y t k h′ .0))
+  pub sub-found : Compared (subOne l e) (subOne t k) (behind 64 l e) (behind 64 t k) r
+  sub-found = record {
+    told = λ y. x .told y ∙ sym (first-within y (numbers 6 64 y l e) (numbers 6 64 y t k) (sub-between y l e h .0) (sub-between y t k h′ .0));
+    from = x .from;
+    to = x .to;
+  }
 
   -- the Par(2) block of an SPar(1) position: its NPar(2), and what stands behind
-  par-parts : (c q : ℕ) →
-      let y = c + q * 262144 in
-      allIn (parOne l c q e) (parOne t c q k)
-      ≡ pick (allIn (numbers 6 64 y l e) (numbers 6 64 y t k)) (allIn (groupCodes y l (behind 64 l e)) (groupCodes y t (behind 64 t k))) false
-  par-parts c q =
-      let y = c + q * 262144 in
+  par-parts : (y : ℕ) → allIn (parOne l e y) (parOne t k y) ≡ pick (r .fits) (allIn (groupCodes y l (behind 64 l e)) (groupCodes y t (behind 64 t k))) false
+  par-parts y =
       first-within y _ _ (par-between y l e h .0) (par-between y t k h′ .0)
       ∙ parts-within (y + 449) (numbers 6 64 y l e) (groupCodes y l (behind 64 l e)) (numbers 6 64 y t k) (groupCodes y t (behind 64 t k))
       (numbers-between 6 64 y l e (omega arith) h .1) (from-ascending (y + 449) (y + 448) _ (omega arith) (group-above y l (behind 64 l e) h))
       (numbers-between 6 64 y t k (omega arith) h′ .1) (from-ascending (y + 449) (y + 448) _ (omega arith) (group-above y t (behind 64 t k) h′))
+      ∙ rw (sym (x .told y))
 
-  module _ {f : Bool} (x : BlockWithin 6 64 l e t k f) where
-    pub par-lost : f ≡ false → (c q : ℕ) → f ≡ allIn (parOne l c q e) (parOne t c q k)
-    par-lost n c q = sym (par-parts c q ∙ rw (sym (x .told (c + q * 262144)), n))
+  pub par-lost : r .fits ≡ false → Compared (parOne l e) (parOne t k) (groupBehind l (behind 64 l e)) (groupBehind t (behind 64 t k)) r
+  par-lost n = record { told = λ y. n ∙ sym (par-parts y ∙ rw n); from = λ v. cc; to = λ v. cc }
 
-    pub par-found : f ≡ true → {g : Bool} → GroupWithin l (behind 64 l e) t (behind 64 t k) g → (c q : ℕ) → g ≡ allIn (parOne l c q e) (parOne t c q k)
-    par-found n z c q = sym (par-parts c q ∙ rw (sym (x .told (c + q * 262144)), n) (sym (z .told (c + q * 262144))))
+  pub par-found : r .fits ≡ true → {r₁ : Paired} → GroupWithin l (r .from) t (r .to) r₁
+      → Compared (parOne l e) (parOne t k) (groupBehind l (behind 64 l e)) (groupBehind t (behind 64 t k)) r₁
+  par-found n z =
+      let g = rw (x .from n, x .to n) at z in
+      record { told = λ y. g .told y ∙ sym (par-parts y ∙ rw n); from = g .from; to = g .to }
 
 -- ---- what stands in a Par(2) block behind its NPar(2)
 
--- nothing does
-pub group-none : (l : List ℕ) (e : ℕ) (t : List ℕ) (k : ℕ) → ended l e ≡ true → GroupWithin l e t k true
-unfolding groupCodes allIn
-group-none l e t k h = record { told = λ c. rw h }
+-- where nothing does it ends there
+pub group-past : (l : List ℕ) (e : ℕ) → ended l e ≡ true → groupBehind l e ≡ e
+unfolding groupBehind
+group-past l e h = rw h
 
--- SPar(2) does; behind the end of the octets where the other has none
-pub group-some : (l : List ℕ) (e : ℕ) (t : List ℕ) (k j : ℕ) (a : Paired) (r : Bool) → ended l e ≡ false
-    → ((ended t k ≡ true) × (j ≡ length t)) ⊎ ((ended t k ≡ false) × (j ≡ k))
-    → a .from ≡ behind 64 l e → a .to ≡ behind 64 t j → SubsWithin l e t j a r → GroupWithin l e t k r
-unfolding groupCodes subCodes
-group-some l e t k j a r h o n m x = record { told = λ c. x .told c 0 ∙ rw (n, m, h, theirs c o) }
-  where
-    theirs : (c : ℕ) → ((ended t k ≡ true) × (j ≡ length t)) ⊎ ((ended t k ≡ false) × (j ≡ k))
-        → subCodes c (numbers 6 64 0 t j) t (behind 64 t j) ≡ pick (ended t k) [] (subCodes c (numbers 6 64 0 t k) t (behind 64 t k))
-    theirs c = ⊎-elim
-        (λ (y : (ended t k ≡ true) × (j ≡ length t)). rw (y .0, numbers-out 6 64 0 t j (omega arith)))
-        (λ (y : (ended t k ≡ false) × (j ≡ k)). rw (y .0, y .1))
+module _ (l : List ℕ) (e : ℕ) (t : List ℕ) (k : ℕ) where
+  -- nothing does in the first
+  pub group-none : ended l e ≡ true → {r : Paired} → r .fits ≡ true → r .from ≡ e → r .to ≡ groupBehind t k → GroupWithin l e t k r
+  unfolding groupCodes allIn
+  group-none h f n o = record { told = λ c. rw (f, h); from = λ v. n ∙ sym (group-past l e h); to = λ v. o }
+
+  module _ (h : ended l e ≡ false) {r : Paired} where
+    -- or in the second: then nothing may be set in SPar(2)
+    pub group-alone : ended t k ≡ true → BlockEmpty 6 64 l e k r → GroupWithin l e t k r
+    unfolding groupCodes groupBehind subCodes subsBehind isIn allIn
+    group-alone o x = record {
+      told = λ c. x .told 0 ∙ rw (h, o) (no-codes c (numbers 6 64 0 l e));
+      from = λ n. rw (h, none-within (numbers 6 64 0 l e) (sym (x .told 0) ∙ n)) (x .from n);
+      to = λ n. x .to n ∙ sym (group-past t k o);
+    }
+      where
+        no-codes : (c : ℕ) (qs : List ℕ) → allIn qs [] ≡ allIn (subCodes c qs l (behind 64 l e)) []
+        no-codes c [] = refl
+        no-codes c (q ∷ qs) = refl
+
+    -- SPar(2) stands in both
+    pub group-both : ended t k ≡ false → AllWithin (subs l) (subs t) 6 64 l e t k r → GroupWithin l e t k r
+    unfolding groupCodes groupBehind
+    group-both o x = record { told = λ c. rw (h, o) (x .told c); from = λ n. rw h (x .from n); to = λ n. rw o (x .to n) }
 
 -- ---- a field
 
@@ -108,7 +209,7 @@ pub rest-from : (b : ℕ) (l : List ℕ) (e : ℕ) → length l ≤ 64 → AllFr
 unfolding restCodes
 rest-from b l e h =
     from-lower (b + 449) (b + 1 * 262144) _ (omega arith)
-    (many-from (pars-stepped l h b) 1 (numbers 7 128 0 l e) (behind 128 l e) (from-ascending 1 0 _ (omega arith) (numbers-ascending 7 128 0 l e)))
+    (many-from (pars-stepped l h) b 1 (numbers 7 128 0 l e) (behind 128 l e) (from-ascending 1 0 _ (omega arith) (numbers-ascending 7 128 0 l e)))
 
 module _ (l t : List ℕ) (h : length l ≤ 64) (h′ : length t ≤ 64) (i j : ℕ) where
   field-parts : (b : ℕ) → allIn (fieldCodes b l i) (fieldCodes b t j)
@@ -118,14 +219,15 @@ module _ (l t : List ℕ) (h : length l ≤ 64) (h′ : length t ≤ 64) (i j : 
       parts-within (b + 449) _ _ _ _
       (numbers-between 7 128 b l i (omega arith) h .1) (rest-from b l (behind 128 l i) h) (numbers-between 7 128 b t j (omega arith) h′ .1) (rest-from b t (behind 128 t j) h′)
 
-  module _ {f : Bool} (x : BlockWithin 7 128 l i t j f) where
-    pub field-lost : f ≡ false → FieldWithin l i t j false
+  module _ {r : Paired} (x : BlockWithin 7 128 l i t j r) where
+    pub field-lost : r .fits ≡ false → FieldWithin l i t j false
     field-lost n = record { told = λ b. sym (field-parts b ∙ rw (sym (x .told b), n)) }
 
-    pub field-found : f ≡ true → {e k : ℕ} → e ≡ behind 128 l i → k ≡ behind 128 t j → {a : Paired} → a .from ≡ behind 128 l e → a .to ≡ behind 128 t k
-        → {r : Bool} → ParsWithin l e t k a r → FieldWithin l i t j r
+    pub field-found : r .fits ≡ true → {r₁ : Paired} → AllWithin (pars l) (pars t) 7 128 l (r .from) t (r .to) r₁ → FieldWithin l i t j (r₁ .fits)
     unfolding restCodes
-    field-found n p q u v y = record { told = λ b. y .told b 0 ∙ rw (u, v, p, q) (sym (field-parts b ∙ rw (sym (x .told b), n))) }
+    field-found n y =
+        let v = rw (x .from n, x .to n) at y in
+        record { told = λ b. v .told b ∙ sym (field-parts b ∙ rw (sym (x .told b), n)) }
 
 -- in octets of a message they are its codes
 pub within-short : (f : Field) (l : List ℕ) (i : ℕ) (t : List ℕ) (j : ℕ) (r : Bool) → length l ≤ 64 → length t ≤ 64 → FieldWithin l i t j r

@@ -1,223 +1,378 @@
 -- Positions with what they announce, held beside others one after the other: one law for those of SPar(2) and for those of SPar(1). The
 -- codes of a position lie below those of the next, so that a code can only be found at its own.
 -- Assumes nothing.
-use Prim.Native.Nat.{ℕ, _+_, _-_, _*_, _/_, _≤_, _<_}
-use mathlib.Core.Bool.{Bool, true, false, not}
-use mathlib.Core.List.{List, [], _∷_, _++_}
+use Prim.Native.Nat.{ℕ, _+_, _-_, _*_, _/_, _%_, _^_, _≤_, _<_}
+use mathlib.Core.Bool.{Bool, true, false}
+use mathlib.Core.List.{List, [], _∷_, _++_, append-assoc, append-nil}
+use mathlib.Core.Logic.{⊎-elim}
 use mathlib.Core.Path.{_≡_, refl, sym, _∙_}
 use native.Mathlib.Omega.{arith}
+use borrow.Author.Tests.{ltb-true, ltb-false, eqb-false}
+use lib.Count.{trailingZeros}
+use lib.Dec.{ltb, eqb}
 use lib.ListN.{length, getD}
+use lib.Pow.{shr-le}
 use Rattle.octets.specs.Bits.{odd}
 use Rattle.octets.specs.Places.{pick}
 use Rattle.tree.specs.Block.{setBits, numbers, behind}
-use Rattle.tree.specs.Codes.{subCodes, groupCodes, groupBehind, parCodes}
+use Rattle.tree.specs.Codes.{subCodes, subsBehind, groupCodes, groupBehind, parCodes, parsBehind}
 use Rattle.tree.specs.Order.{AllBelow, AllFrom}
-use Rattle.within.specs.Pairing.{nextPlace, oneOf, OneWithin, OctetWithin, AllWithin, subsIn, parsIn}
+use Rattle.within.specs.Pairing.{nextPlace, Compared, BlockWithin, Level, subs, pars, Fits, oneOf, OneWithin, OctetWithin, AllWithin}
 use Rattle.tree.specs.Fields.{isIn, allIn}
 use Rattle.within.specs.declared.Paired.{Paired}
-use Rattle.within.proofs.Apart.{from-lower, from-append, from-ascending, parts-within}
-use Rattle.within.proofs.Taking.{bits-next, bits-over, numbers-out, numbers-next, place-on, place-end}
+use Rattle.within.proofs.Apart.{from-lower, from-append, from-ascending, in-none, in-append, in-behind, both, none-within, parts-within}
+use Rattle.within.proofs.Taking.{numbers-out, numbers-next, place-on, place-end, under-lowest, Under}
 use Rattle.tree.proofs.Ascending.{bits-between, numbers-ascending, sub-between, par-between}
+use Rattle.tree.proofs.Lowest.{Lowest, lowest, bits-none, bits-below}
+use Rattle.tree.proofs.Within.{in-cases, in-first, allIn-isIn, isIn-allIn}
 
 -- codes made of positions one after the other, each read at the place behind the one before; those of a position are from low on,
 -- and below low of the next
-pub record Stepped (low : ℕ → ℕ) (one : ℕ → ℕ → List ℕ) (many : List ℕ → ℕ → List ℕ) (past : ℕ → ℕ) : Type 0 where
-  pub none : (e : ℕ) → many [] e ≡ []
-  pub next : (q : ℕ) (qs : List ℕ) (e : ℕ) → many (q ∷ qs) e ≡ one q e ++ many qs (past e)
-  pub from : (q e : ℕ) → AllFrom (low q) (one q e)
-  pub below : (q e : ℕ) → AllBelow (low (q + 1)) (one q e)
-  pub rise : (q r : ℕ) → q ≤ r → low q ≤ low r
-  pub some : (q e : ℕ) → allIn (one q e) [] ≡ false
+pub record Stepped (x : Level) (low : ℕ → ℕ → ℕ) (one : ℕ → ℕ → List ℕ) (next : ℕ → ℕ) : Type 0 where
+  pub none : (c e : ℕ) → x .codes c [] e ≡ []
+  pub more : (c q : ℕ) (qs : List ℕ) (e : ℕ) → x .codes c (q ∷ qs) e ≡ one e (low c q) ++ x .codes c qs (next e)
+  pub stay : (e : ℕ) → x .past [] e ≡ e
+  pub pass : (q : ℕ) (qs : List ℕ) (e : ℕ) → x .past (q ∷ qs) e ≡ x .past qs (next e)
+  pub from : (y e : ℕ) → AllFrom y (one e y)
+  pub below : (c q e : ℕ) → AllBelow (low c (q + 1)) (one e (low c q))
+  pub rise : (c q r : ℕ) → q ≤ r → low c q ≤ low c r
+  pub apart : (c q : ℕ) → low c q < low c (q + 1)
+  pub first : (y e : ℕ) → isIn y (one e y) ≡ true
 
 -- a position of SPar(2) with its NPar(3) block, and one of SPar(1) with its Par(2) block
-abbrev pub subOne : List ℕ → ℕ → ℕ → ℕ → List ℕ
-subOne l c q e = (c + q * 512) ∷ numbers 6 64 (c + q * 512) l e
+abbrev pub subOne : List ℕ → ℕ → ℕ → List ℕ
+subOne l e y = y ∷ numbers 6 64 y l e
 
-abbrev pub parOne : List ℕ → ℕ → ℕ → ℕ → List ℕ
-parOne l b q e = (b + q * 262144) ∷ (numbers 6 64 (b + q * 262144) l e ++ groupCodes (b + q * 262144) l (behind 64 l e))
+abbrev pub parOne : List ℕ → ℕ → ℕ → List ℕ
+parOne l e y = y ∷ (numbers 6 64 y l e ++ groupCodes y l (behind 64 l e))
 
--- where no position is set there are no codes
-pub subs-none : (l : List ℕ) (c e : ℕ) → subsIn l c [] e ≡ []
-unfolding subCodes
-subs-none l c e = refl
-
-pub pars-none : (l : List ℕ) (c e : ℕ) → parsIn l c [] e ≡ []
-unfolding parCodes
-pars-none l c e = refl
-
-module _ (l : List ℕ) (h : length l ≤ 64) (c : ℕ) where
-  pub subs-stepped : Stepped (λ q. c + q * 512) (subOne l c) (subsIn l c) (λ e. behind 64 l e)
-  unfolding subCodes isIn allIn AllFrom AllBelow
+module _ (l : List ℕ) (h : length l ≤ 64) where
+  pub subs-stepped : Stepped (subs l) (λ c q. c + q * 512) (subOne l) (λ e. behind 64 l e)
+  unfolding subCodes subsBehind AllFrom AllBelow
   subs-stepped = record {
-    none = subs-none l c;
-    next = λ q qs e. refl;
-    from = λ q e. (omega arith, from-ascending (c + q * 512) (c + q * 512) _ (omega arith) (sub-between (c + q * 512) l e h .0));
-    below = λ q e. let n : c + (q + 1) * 512 ≡ c + q * 512 + 512 = omega arith in rw n (omega arith, sub-between (c + q * 512) l e h .1);
-    rise = λ q r k. omega arith;
-    some = λ q e. refl;
+    none = λ c e. refl;
+    more = λ c q qs e. refl;
+    stay = λ e. refl;
+    pass = λ q qs e. refl;
+    from = λ y e. (omega arith, from-ascending y y _ (omega arith) (sub-between y l e h .0));
+    below = λ c q e. let n : c + (q + 1) * 512 ≡ c + q * 512 + 512 = omega arith in rw n (omega arith, sub-between (c + q * 512) l e h .1);
+    rise = λ c q r k. omega arith;
+    apart = λ c q. omega arith;
+    first = λ y e. in-first y _;
   }
 
-  pub pars-stepped : Stepped (λ q. c + q * 262144) (parOne l c) (parsIn l c) (λ e. groupBehind l (behind 64 l e))
-  unfolding parCodes isIn allIn AllFrom AllBelow
+  pub pars-stepped : Stepped (pars l) (λ c q. c + q * 262144) (parOne l) (λ e. groupBehind l (behind 64 l e))
+  unfolding parCodes parsBehind AllFrom AllBelow
   pars-stepped = record {
-    none = pars-none l c;
-    next = λ q qs e. refl;
-    from = λ q e. (omega arith, from-ascending (c + q * 262144) (c + q * 262144) _ (omega arith) (par-between (c + q * 262144) l e h .0));
-    below = λ q e. let n : c + (q + 1) * 262144 ≡ c + q * 262144 + 262144 = omega arith in rw n (omega arith, par-between (c + q * 262144) l e h .1);
-    rise = λ q r k. omega arith;
-    some = λ q e. refl;
+    none = λ c e. refl;
+    more = λ c q qs e. refl;
+    stay = λ e. refl;
+    pass = λ q qs e. refl;
+    from = λ y e. (omega arith, from-ascending y y _ (omega arith) (par-between y l e h .0));
+    below = λ c q e. let n : c + (q + 1) * 262144 ≡ c + q * 262144 + 262144 = omega arith in rw n (omega arith, par-between (c + q * 262144) l e h .1);
+    rise = λ c q r k. omega arith;
+    apart = λ c q. omega arith;
+    first = λ y e. in-first y _;
   }
 
 -- ---- one position
 
-module _ {low : ℕ → ℕ} {one : ℕ → ℕ → List ℕ} {many : List ℕ → ℕ → List ℕ} {past : ℕ → ℕ} (x : Stepped low one many past) where
+module _ {x : Level} {low : ℕ → ℕ → ℕ} {one : ℕ → ℕ → List ℕ} {next : ℕ → ℕ} (s : Stepped x low one next) where
   -- the codes of positions that are not below q
-  pub many-from : (q : ℕ) (qs : List ℕ) (e : ℕ) → AllFrom q qs → AllFrom (low q) (many qs e)
+  pub many-from : (c q : ℕ) (qs : List ℕ) (e : ℕ) → AllFrom q qs → AllFrom (low c q) (x .codes c qs e)
   unfolding AllFrom
-  many-from q [] e a = rw (x .none e) tt
-  many-from q (r ∷ qs) e a =
-      rw (x .next r qs e) (from-append (low q) (one r e) (many qs (past e)) (from-lower (low q) (low r) (one r e) (x .rise q r (a .0)) (x .from r e)) (many-from q qs (past e) (a .1)))
+  many-from c q [] e a = rw (s .none c e) tt
+  many-from c q (r ∷ qs) e a =
+      rw (s .more c r qs e)
+      (from-append (low c q) (one e (low c r)) (x .codes c qs (next e)) (from-lower (low c q) (low c r) (one e (low c r)) (s .rise c q r (a .0)) (s .from (low c r) e)) (many-from c q qs (next e) (a .1)))
 
   -- a position that is set or not, and more behind it
-  one-split : (b : Bool) (q : ℕ) (more : List ℕ) (e : ℕ) → many (oneOf b q ++ more) e ≡ pick b (one q e) [] ++ many more (pick b (past e) e)
-  one-split true q more e = x .next q more e
-  one-split false q more e = refl
+  one-split : (c : ℕ) (b : Bool) (q : ℕ) (qs : List ℕ) (e : ℕ) → x .codes c (oneOf b q ++ qs) e ≡ pick b (one e (low c q)) [] ++ x .codes c qs (pick b (next e) e)
+  one-split c true q qs e = s .more c q qs e
+  one-split c false q qs e = refl
 
-  one-below : (b : Bool) (q e : ℕ) → AllBelow (low (q + 1)) (pick b (one q e) [])
+  one-past : (b : Bool) (q : ℕ) (qs : List ℕ) (e : ℕ) → x .past (oneOf b q ++ qs) e ≡ x .past qs (pick b (next e) e)
+  one-past true q qs e = s .pass q qs e
+  one-past false q qs e = refl
+
+  one-below : (c : ℕ) (b : Bool) (q e : ℕ) → AllBelow (low c (q + 1)) (pick b (one e (low c q)) [])
   unfolding AllBelow
-  one-below true q e = x .below q e
-  one-below false q e = tt
+  one-below c true q e = s .below c q e
+  one-below c false q e = tt
 
-module _ {low : ℕ → ℕ} {one one′ : ℕ → ℕ → List ℕ} {many many′ : List ℕ → ℕ → List ℕ} {past past′ : ℕ → ℕ}
-    (x : Stepped low one many past) (y : Stepped low one′ many′ past′) (q : ℕ) (a : Paired) where
+  -- a position has its own code, and no other has it
+  code-in : (c q : ℕ) (qs : List ℕ) (e : ℕ) → isIn q qs ≡ true → isIn (low c q) (x .codes c qs e) ≡ true
+  unfolding isIn
+  code-in c q [] e h = cc
+  code-in c q (r ∷ qs) e h =
+      rw (s .more c r qs e, in-append (low c q) (one e (low c r)) (x .codes c qs (next e)))
+      (⊎-elim (λ (n : r ≡ q). rw (n, s .first (low c q) e)) (λ (n : isIn q qs ≡ true). rw (code-in c q qs (next e) n) (either (isIn (low c q) (one e (low c r))))) (in-cases q r qs h))
+    where
+      either : (t : Bool) → pick t true true ≡ true
+      either true = refl
+      either false = refl
+
+  code-own : (c q : ℕ) (qs : List ℕ) (e : ℕ) → isIn (low c q) (x .codes c qs e) ≡ true → isIn q qs ≡ true
+  unfolding isIn
+  code-own c q [] e h = let n = rw (s .none c e) at h in cc
+  code-own c q (r ∷ qs) e h = go (eqb r q) refl (code-own c q qs (next e))
+    where
+      behind-it : (r ≡ q → ⊥) → (t : Bool) → ltb r q ≡ t → isIn (low c q) (one e (low c r) ++ x .codes c qs (next e)) ≡ isIn (low c q) (x .codes c qs (next e))
+      behind-it n true i = in-behind (low c q) (low c (r + 1)) (one e (low c r)) _ (s .rise c (r + 1) q (omega (arith, ltb-true r q i))) (s .below c r e)
+      behind-it n false i =
+          let over : q + 1 ≤ r = omega (arith, ltb-false r q i) in
+          in-append (low c q) (one e (low c r)) _ ∙ rw (in-none (low c q) (low c r) (one e (low c r)) (omega (arith, s .apart c q, s .rise c (q + 1) r over)) (s .from (low c r) e))
+
+      go : (t : Bool) → eqb r q ≡ t → (isIn (low c q) (x .codes c qs (next e)) ≡ true → isIn q qs ≡ true) → pick t true (isIn q qs) ≡ true
+      go true i rest = refl
+      go false i rest = rest (sym (behind-it (eqb-false r q i) (ltb r q) refl) ∙ rw (s .more c r qs e) at h)
+
+-- where all was found the places are known
+compared-on : {f g : ℕ → List ℕ} {a b : ℕ} {r : Paired} → Compared f g a b r → (is : ℕ → ℕ → Bool) → pick (r .fits) (is a b) false ≡ pick (r .fits) (is (r .from) (r .to)) false
+compared-on {a = a} {b = b} {r = r} x is = go (r .fits) refl
+  where
+    go : (t : Bool) → r .fits ≡ t → pick t (is a b) false ≡ pick t (is (r .from) (r .to)) false
+    go true e = rw (x .from e, x .to e)
+    go false e = refl
+
+module _ {x y : Level} {low : ℕ → ℕ → ℕ} {one one′ : ℕ → ℕ → List ℕ} {next next′ : ℕ → ℕ} (s : Stepped x low one next) (u : Stepped y low one′ next′) (a : Paired) where
   -- what is asked of a position, and of what is behind it, is asked of each for itself
-  one-parts : (mine theirs : Bool) (more more′ : List ℕ) → AllFrom (q + 1) more → AllFrom (q + 1) more′
-      → allIn (many (oneOf mine q ++ more) (a .from)) (many′ (oneOf theirs q ++ more′) (a .to))
-      ≡ pick (allIn (pick mine (one q (a .from)) []) (pick theirs (one′ q (a .to)) []))
-      (allIn (many more (pick mine (past (a .from)) (a .from))) (many′ more′ (pick theirs (past′ (a .to)) (a .to)))) false
-  one-parts mine theirs more more′ f g =
-      rw (one-split x mine q more (a .from), one-split y theirs q more′ (a .to))
-      (parts-within (low (q + 1)) _ _ _ _ (one-below x mine q (a .from)) (many-from x (q + 1) more _ f) (one-below y theirs q (a .to)) (many-from y (q + 1) more′ _ g))
+  one-parts : (c q : ℕ) (mine : Bool) (qs qs′ : List ℕ) → AllFrom (q + 1) qs → AllFrom (q + 1) qs′
+      → allIn (x .codes c (oneOf mine q ++ qs) (a .from)) (y .codes c (q ∷ qs′) (a .to))
+      ≡ pick (allIn (pick mine (one (a .from) (low c q)) []) (one′ (a .to) (low c q)))
+      (allIn (x .codes c qs (pick mine (next (a .from)) (a .from))) (y .codes c qs′ (next′ (a .to)))) false
+  one-parts c q mine qs qs′ f g =
+      rw (one-split s c mine q qs (a .from), u .more c q qs′ (a .to))
+      (parts-within (low c (q + 1)) _ _ _ _ (one-below s c mine q (a .from)) (many-from s c (q + 1) qs _ f) (u .below c q (a .to)) (many-from u c (q + 1) qs′ _ g))
 
-module _ {low : ℕ → ℕ → ℕ} {one one′ : ℕ → ℕ → ℕ → List ℕ} {many many′ : ℕ → List ℕ → ℕ → List ℕ} {past past′ : ℕ → ℕ}
-    (x : (c : ℕ) → Stepped (low c) (one c) (many c) past) (y : (c : ℕ) → Stepped (low c) (one′ c) (many′ c) past′) (a : Paired) where
-  -- the second has not set it: then the first must not
-  pub one-absent : (mine : Bool) {theirs : Bool} → theirs ≡ false → OneWithin many many′ mine theirs a (record { fits = not mine; from = a .from; to = a .to })
+  -- only the second has it set
+  pub one-passed : {mine : Bool} → mine ≡ false → {r : Paired} → r .fits ≡ true → r .from ≡ a .from → r .to ≡ next′ (a .to) → OneWithin x y mine a r
   unfolding allIn
-  one-absent true h = record { told = λ c q. record { same = λ more more′ f g. rw h (one-parts (x c) (y c) q a true false more more′ f g ∙ rw (x c .some q (a .from))) } }
-  one-absent false h = record { told = λ c q. record { same = λ more more′ f g. rw h (one-parts (x c) (y c) q a false false more more′ f g) } }
-
-  -- only the second has
-  pub one-passed : {mine theirs : Bool} → theirs ≡ true → mine ≡ false → {to : ℕ} → to ≡ past′ (a .to)
-      → OneWithin many many′ mine theirs a (record { fits = true; from = a .from; to = to })
-  unfolding allIn
-  one-passed h k n = record { told = λ c q. record { same = λ more more′ f g. rw (h, k, n) (one-parts (x c) (y c) q a false true more more′ f g) } }
+  one-passed h k n m = record {
+    told = λ q. record {
+      same = λ c qs qs′ f g. rw (h, k, n, m) (one-parts c q false qs qs′ f g);
+      from = λ v qs. rw (h, n);
+      to = λ v qs. rw m (u .pass q qs (a .to));
+    };
+  }
 
   -- both have
-  pub one-both : {mine theirs : Bool} → theirs ≡ true → mine ≡ true → (r : Paired) → ((c q : ℕ) → r .fits ≡ allIn (one c q (a .from)) (one′ c q (a .to)))
-      → r .from ≡ past (a .from) → r .to ≡ past′ (a .to) → OneWithin many many′ mine theirs a r
-  one-both h k r n m o = record { told = λ c q. record { same = λ more more′ f g. rw (h, k, n c q, m, o) (one-parts (x c) (y c) q a true true more more′ f g) } }
+  pub one-both : {mine : Bool} → mine ≡ true → {r : Paired} → Compared (one (a .from)) (one′ (a .to)) (next (a .from)) (next′ (a .to)) r → OneWithin x y mine a r
+  one-both h {r = r} z = record {
+    told = λ q. record {
+      same = λ c qs qs′ f g.
+          rw h (one-parts c q true qs qs′ f g ∙ rw (sym (z .told (low c q))) (compared-on z (λ i j. allIn (x .codes c qs i) (y .codes c qs′ j))));
+      from = λ v qs. rw (h, z .from v) (s .pass q qs (a .from));
+      to = λ v qs. rw (z .to v) (u .pass q qs (a .to));
+    };
+  }
+
+-- a position of the first alone has a code that the second has not
+module _ {x y : Level} {low : ℕ → ℕ → ℕ} {one one′ : ℕ → ℕ → List ℕ} {next next′ : ℕ → ℕ} (s : Stepped x low one next) (u : Stepped y low one′ next′) where
+  codes-lost : (c : ℕ) (qs qs′ : List ℕ) (e k : ℕ) → allIn qs qs′ ≡ false → allIn (x .codes c qs e) (y .codes c qs′ k) ≡ false
+  codes-lost c qs qs′ e k h = go (allIn (x .codes c qs e) (y .codes c qs′ k)) refl
+    where
+      go : (t : Bool) → allIn (x .codes c qs e) (y .codes c qs′ k) ≡ t → t ≡ false
+      go true i =
+          let n : allIn qs qs′ ≡ true = isIn-allIn qs qs′ (λ q v. code-own u c q qs′ k (allIn-isIn (low c q) (x .codes c qs e) (y .codes c qs′ k) i (code-in s c q qs e v))) in
+          cc
+      go false i = refl
+
+  pub octets-lost : (w m : ℕ) (l : List ℕ) (e : ℕ) (t : List ℕ) (k : ℕ) {r : Paired} → BlockWithin w m l e t k r → r .fits ≡ false → AllWithin x y w m l e t k r
+  octets-lost w m l e t k b n = record { told = λ c. n ∙ sym (codes-lost c _ _ _ _ (sym (b .told 0) ∙ n)); from = λ v. cc; to = λ v. cc }
+
+-- ---- some positions, and more behind them
+
+module _ {x y : Level} where
+  -- none was looked at yet
+  fits-none : (h : ℕ) (mine theirs : List ℕ) (a : Paired) → a .fits ≡ true → Fits x y h mine theirs a mine theirs a
+  fits-none h mine theirs a e = record { same = λ c qs qs′ f g. rw e; from = λ v qs. refl; to = λ v qs. refl }
+
+  module _ {g h : ℕ} {mine theirs mine₁ theirs₁ : List ℕ} {a r : Paired} (z : Fits x y g mine theirs a mine₁ theirs₁ r) where
+    -- others are looked at next
+    fits-then : g ≤ h → r .fits ≡ true → {mine₂ theirs₂ : List ℕ} {r₁ : Paired} → Fits x y h mine₁ theirs₁ r mine₂ theirs₂ r₁ → Fits x y h mine theirs a mine₂ theirs₂ r₁
+    fits-then i e v = record {
+      same = λ c qs qs′ f k. z .same c qs qs′ (from-lower g h qs i f) (from-lower g h qs′ i k) ∙ rw e (v .same c qs qs′ f k);
+      from = λ t qs. z .from e qs ∙ v .from t qs;
+      to = λ t qs. z .to e qs ∙ v .to t qs;
+    }
+
+    -- one did not fit: the others do not matter
+    fits-lost : g ≤ h → r .fits ≡ false → Fits x y h mine theirs a [] [] r
+    fits-lost i e = record {
+      same = λ c qs qs′ f k. z .same c qs qs′ (from-lower g h qs i f) (from-lower g h qs′ i k) ∙ rw e;
+      from = λ t qs. cc;
+      to = λ t qs. cc;
+    }
+
+  -- they are only the first of more
+  fits-first : {h : ℕ} {mine theirs : List ℕ} {a r : Paired} → Fits x y h mine theirs a [] [] r → (rest rest′ : List ℕ) → AllFrom h rest → AllFrom h rest′
+      → Fits x y h (mine ++ rest) (theirs ++ rest′) a rest rest′ r
+  fits-first {h = h} {mine = mine} {theirs = theirs} z rest rest′ i j = record {
+    same = λ c qs qs′ f g.
+        rw (append-assoc mine rest qs, append-assoc theirs rest′ qs′)
+        (z .same c (rest ++ qs) (rest′ ++ qs′) (from-append h rest qs i f) (from-append h rest′ qs′ j g));
+    from = λ t qs. rw (append-assoc mine rest qs) (z .from t (rest ++ qs));
+    to = λ t qs. rw (append-assoc theirs rest′ qs) (z .to t (rest′ ++ qs));
+  }
 
 -- ---- the positions of an octet
 
--- of the w positions of an octet of each all but the last, left, were looked at
-pub record BitsPairing (many many′ : ℕ → List ℕ → ℕ → List ℕ) (w mine theirs : ℕ) (start pair : Paired) (a b left : ℕ) : Type 0 where
+-- of the w positions of an octet of each all but the last, left, were looked at, and those are shifted down to a and b
+pub record BitsPairing (x y : Level) (w mine theirs : ℕ) (start pair : Paired) (a b : ℕ) : Type 0 where
+  pub left : ℕ
   pub within : left ≤ w
-  pub fits : left < w → pair .fits ≡ true
-  pub same : (c p : ℕ) (more more′ : List ℕ) → AllFrom (p + w + 1) more → AllFrom (p + w + 1) more′
-      → allIn (many c (setBits w p mine ++ more) (start .from)) (many′ c (setBits w p theirs ++ more′) (start .to))
-      ≡ allIn (many c (setBits left (p + (w - left)) a ++ more) (pair .from)) (many′ c (setBits left (p + (w - left)) b ++ more′) (pair .to))
+  pub small : b < 2 ^ left
+  pub fits : pair .fits ≡ true
+  pub told : (p : ℕ) → allIn (setBits w p mine) (setBits w p theirs) ≡ true →
+      let q = p + (w - left) in
+      (allIn (setBits left q a) (setBits left q b) ≡ true) × Fits x y (q + 1) (setBits w p mine) (setBits w p theirs) start (setBits left q a) (setBits left q b) pair
 
-module _ {many many′ : ℕ → List ℕ → ℕ → List ℕ} {w mine theirs : ℕ} where
+module _ {x y : Level} {w mine theirs : ℕ} {start : Paired} where
   -- none was looked at yet
-  pub bits-none : (start : Paired) → BitsPairing many many′ w mine theirs start start mine theirs w
-  bits-none start = record { within = omega arith; fits = λ h. absurd (omega arith); same = λ c p more more′ f g. let n : p + (w - w) ≡ p = omega arith in rw n }
+  pub bits-start : {m : ℕ} → m ≡ 2 ^ w → start .fits ≡ true → theirs % m < 2 ^ w → BitsPairing x y w mine theirs start start mine (theirs % m)
+  bits-start h e k = record {
+    left = w;
+    within = omega arith;
+    small = k;
+    fits = e;
+    told = λ p f.
+        let n : p + (w - w) ≡ p = omega arith in
+        rw (n, h, bits-below w p theirs) (f, fits-none (p + 1) (setBits w p mine) (setBits w p theirs) start e);
+  }
 
-  module _ {start pair : Paired} {a b left : ℕ} (y : BitsPairing many many′ w mine theirs start pair a b left) where
+  module _ {pair : Paired} {a b : ℕ} (z : BitsPairing x y w mine theirs start pair a b) where
     -- all were
-    pub bits-end : 0 < w → left ≤ 0 → OctetWithin many many′ w mine theirs start pair
-    bits-end h k = record {
-      told = λ c p. record {
-        same = λ more more′ f g.
-            y .same c p more more′ f g ∙ rw (bits-over left (p + (w - left)) a k, bits-over left (p + (w - left)) b k, y .fits (omega arith));
-      };
+    pub bits-end : b ≡ 0 → OctetWithin x y w mine theirs start pair
+    bits-end h = record {
+      told = λ p f.
+          let q = p + (w - z .left) in
+          let v = z .told p f in
+          let n : setBits (z .left) q b ≡ [] = rw (h, bits-none (z .left) q) in
+          let o : setBits (z .left) q a ≡ [] = none-within _ (rw n at (v .0)) in
+          fits-then (rw (n, o) at (v .1)) (omega (arith, z .within)) (z .fits) (fits-none (p + w + 1) [] [] pair (z .fits));
     }
 
-    -- the next was
-    module _ (some : 0 < left) {pair₁ : Paired} (r : OneWithin many many′ (odd a) (odd b) pair pair₁) where
-      bits-on : (c p : ℕ) (more more′ : List ℕ) → AllFrom (p + w + 1) more → AllFrom (p + w + 1) more′
-          → allIn (many c (setBits w p mine ++ more) (start .from)) (many′ c (setBits w p theirs ++ more′) (start .to))
-          ≡ pick (pair₁ .fits)
-          (allIn (many c (setBits (left - 1) (p + (w - (left - 1))) (a / 2) ++ more) (pair₁ .from)) (many′ c (setBits (left - 1) (p + (w - (left - 1))) (b / 2) ++ more′) (pair₁ .to)))
-          false
-      bits-on c p more more′ f g =
-          let q = p + (w - left) in
-          let n : p + (w - (left - 1)) ≡ q + 1 = omega (arith, y .within) in
-          y .same c p more more′ f g
-          ∙ rw (bits-next left q a more some, bits-next left q b more′ some, n)
-          (r .told c (q + 1) .same _ _ (behind-bits q a more (omega (arith, y .within)) f) (behind-bits q b more′ (omega (arith, y .within)) g))
-        where
-          behind-bits : (q d : ℕ) (m : List ℕ) → q + 1 ≤ p + w → AllFrom (p + w + 1) m → AllFrom (q + 1 + 1) (setBits (left - 1) (q + 1) (d / 2) ++ m)
-          behind-bits q d m h k =
-              from-append (q + 1 + 1) (setBits (left - 1) (q + 1) (d / 2)) m
-              (from-ascending (q + 1 + 1) (q + 1) _ (omega arith) (bits-between (left - 1) (q + 1) (d / 2) .0))
-              (from-lower (q + 1 + 1) (p + w + 1) m (omega arith) k)
+    -- one is left: the lowest of the second, behind the zeros that are counted
+    module _ (narrow : w ≤ 7) (some : b ≡ 0 → ⊥) where
+      abbrev zeros : ℕ
+      zeros = trailingZeros 8 b
 
-      -- it did not fit, or it did
-      pub bits-stop : pair₁ .fits ≡ false → OctetWithin many many′ w mine theirs start pair₁
-      bits-stop n = record { told = λ c p. record { same = λ more more′ f g. bits-on c p more more′ f g ∙ rw n } }
+      low : (p : ℕ) → Lowest (z .left) p b zeros
+      low p = lowest 8 (z .left) p b (omega (arith, z .within)) (omega arith) (z .small)
 
-      pub bits-turn : pair₁ .fits ≡ true → BitsPairing many many′ w mine theirs start pair₁ (a / 2) (b / 2) (left - 1)
-      bits-turn n = record {
-        within = omega (arith, y .within);
-        fits = λ h. n;
-        same = λ c p more more′ f g. bits-on c p more more′ f g ∙ rw n;
-      }
+      pub bits-few : zeros < 8
+      bits-few = omega (arith, low 0 .0, z .within)
+
+      pub bits-less : b / 2 ^ zeros / 2 < b
+      bits-less = omega (arith, shr-le b zeros)
+
+      -- it was looked at
+      module _ {pair₁ : Paired} (r : OneWithin x y (odd (a / 2 ^ zeros)) pair pair₁) where
+        abbrev rest : ℕ
+        rest = z .left - (zeros + 1)
+
+        bits-on : (p : ℕ) → allIn (setBits w p mine) (setBits w p theirs) ≡ true →
+            let q = p + (w - rest) in
+            (allIn (setBits rest q (a / 2 ^ zeros / 2)) (setBits rest q (b / 2 ^ zeros / 2)) ≡ true)
+            × Fits x y (q + 1) (setBits w p mine) (setBits w p theirs) start (setBits rest q (a / 2 ^ zeros / 2)) (setBits rest q (b / 2 ^ zeros / 2)) pair₁
+        bits-on p f =
+            let q = p + (w - z .left) in
+            let v = z .told p f in
+            let n : p + (w - rest) ≡ q + (zeros + 1) = omega (arith, low 0 .0, z .within) in
+            let u : Under (z .left) q a b zeros = under-lowest 8 (z .left) q a b (omega (arith, z .within)) (omega arith) (z .small) (v .0) in
+            let d = fits-first (r .told (q + (zeros + 1))) (setBits rest (q + (zeros + 1)) (a / 2 ^ zeros / 2)) (setBits rest (q + (zeros + 1)) (b / 2 ^ zeros / 2)) (above (q + (zeros + 1)) _) (above (q + (zeros + 1)) _) in
+            rw n (u .1, fits-then (rw (u .0, low q .1) at (v .1)) (omega arith) (z .fits) d)
+          where
+            above : (q d : ℕ) → AllFrom (q + 1) (setBits rest q d)
+            above q d = from-ascending (q + 1) q _ (omega arith) (bits-between rest q d .0)
+
+        -- it did not fit, or it did
+        pub bits-stop : pair₁ .fits ≡ false → OctetWithin x y w mine theirs start pair₁
+        bits-stop n = record { told = λ p f. fits-lost (bits-on p f .1) (omega (arith, low 0 .0, z .within)) n }
+
+        pub bits-turn : pair₁ .fits ≡ true → BitsPairing x y w mine theirs start pair₁ (a / 2 ^ zeros / 2) (b / 2 ^ zeros / 2)
+        bits-turn n = record { left = rest; within = omega (arith, z .within); small = low 0 .2; fits = n; told = bits-on }
 
 -- ---- the positions of a block
 
--- of the two blocks as many octets were looked at, and those at i and j are next
-pub record OctetsPairing (many many′ : ℕ → List ℕ → ℕ → List ℕ) (w m : ℕ) (l : List ℕ) (e : ℕ) (t : List ℕ) (k : ℕ) (start pair : Paired) (i j : ℕ) : Type 0 where
-  pub same : (c p : ℕ) → (q : ℕ)
-      × (allIn (many c (numbers w m p l e) (start .from)) (many′ c (numbers w m p t k) (start .to))
-      ≡ allIn (many c (numbers w m q l i) (pair .from)) (many′ c (numbers w m q t j) (pair .to)))
+-- of the two blocks, none of the first without the second, as many octets were looked at, and those at i and j are next
+pub record OctetsPairing (x y : Level) (w m : ℕ) (l : List ℕ) (e : ℕ) (t : List ℕ) (k : ℕ) (pair : Paired) (i j : ℕ) : Type 0 where
+  pub start : Paired
+  pub places : (start .from ≡ behind m l e) × (start .to ≡ behind m t k)
+  pub above : ℕ
+  pub fits : pair .fits ≡ true
+  pub set : allIn (numbers w m above l i) (numbers w m above t j) ≡ true
+  pub held : Fits x y (above + 1) (numbers w m 0 l e) (numbers w m 0 t k) start (numbers w m above l i) (numbers w m above t j) pair
 
-module _ {many many′ : ℕ → List ℕ → ℕ → List ℕ} {w m : ℕ} {l : List ℕ} {e : ℕ} {t : List ℕ} {k : ℕ} where
+module _ {x y : Level} {low : ℕ → ℕ → ℕ} {one one′ : ℕ → ℕ → List ℕ} {next next′ : ℕ → ℕ} (s : Stepped x low one next) (u : Stepped y low one′ next′)
+    {w m : ℕ} {l : List ℕ} {e : ℕ} {t : List ℕ} {k : ℕ} where
   -- none was looked at yet
-  pub octets-none : (start : Paired) → OctetsPairing many many′ w m l e t k start start e k
-  octets-none start = record { same = λ c p. (p, refl) }
+  pub octets-start : {pair : Paired} → BlockWithin w m l e t k pair → pair .fits ≡ true → OctetsPairing x y w m l e t k pair e k
+  octets-start {pair} b n = record {
+    start = pair;
+    places = (b .from n, b .to n);
+    above = 0;
+    fits = n;
+    set = sym (b .told 0) ∙ n;
+    held = fits-none 1 (numbers w m 0 l e) (numbers w m 0 t k) pair n;
+  }
 
-  module _ {start pair : Paired} {i j : ℕ} (y : OctetsPairing many many′ w m l e t k start pair i j) where
-    -- the first has no more
-    pub octets-end : ((c f : ℕ) → many c [] f ≡ []) → length l ≤ i → AllWithin many many′ w m l e t k start true
-    unfolding allIn
-    octets-end none h = record { told = λ c p. let s = y .same c p in sym (s .1 ∙ rw (numbers-out w m (s .0) l i h, none c (pair .from))) }
+  module _ {pair : Paired} {i j : ℕ} (z : OctetsPairing x y w m l e t k pair i j) where
+    -- all were looked at, or enough
+    octets-all : {h : ℕ} {r : Paired} → Fits x y h (numbers w m 0 l e) (numbers w m 0 t k) (z .start) [] [] r → AllWithin x y w m l e t k r
+    unfolding allIn AllFrom
+    octets-all {r = r} v = record {
+      told = λ c.
+          sym (rw (append-nil (numbers w m 0 l e), append-nil (numbers w m 0 t k), z .places .0, z .places .1, s .none c (r .from)) at (v .same c [] [] tt tt) ∙ whole (r .fits));
+      from = λ n. sym (rw (append-nil (numbers w m 0 l e), z .places .0, s .stay (r .from)) at (v .from n []));
+      to = λ n. sym (rw (append-nil (numbers w m 0 t k), z .places .1, u .stay (r .to)) at (v .to n []));
+    }
+      where
+        whole : (b : Bool) → pick b true false ≡ b
+        whole true = refl
+        whole false = refl
 
-    -- the octet at i was looked at
-    module _ {pair₁ : Paired} (r : OctetWithin many many′ w (getD l i 0) (getD t j 0) pair pair₁) where
-      octets-on : (c p : ℕ) →
-          let q = y .same c p .0 + w in
-          allIn (many c (numbers w m p l e) (start .from)) (many′ c (numbers w m p t k) (start .to))
-          ≡ pick (pair₁ .fits) (allIn (many c (numbers w m q l (nextPlace m l i)) (pair₁ .from)) (many′ c (numbers w m q t (nextPlace m t j)) (pair₁ .to))) false
-      octets-on c p =
-          let s = y .same c p in
-          s .1
-          ∙ rw (numbers-next w m (s .0) l i, numbers-next w m (s .0) t j) (r .told c (s .0) .same _ _ (behind-octet (s .0) l (nextPlace m l i)) (behind-octet (s .0) t (nextPlace m t j)))
+    -- the second has no more, and so the first has not
+    pub octets-end : length t ≤ j → AllWithin x y w m l e t k pair
+    octets-end h =
+        let n : numbers w m (z .above) t j ≡ [] = numbers-out w m (z .above) t j h in
+        let o : numbers w m (z .above) l i ≡ [] = none-within _ (rw n at (z .set)) in
+        octets-all (rw (n, o) at (z .held))
+
+    -- the octet at j was looked at
+    module _ {pair₁ : Paired} (r : OctetWithin x y w (getD l i 0) (getD t j 0) pair pair₁) where
+      abbrev q : ℕ
+      q = z .above + w
+
+      octets-on : (allIn (numbers w m q l (nextPlace m l i)) (numbers w m q t (nextPlace m t j)) ≡ true)
+          × Fits x y (q + 1) (numbers w m 0 l e) (numbers w m 0 t k) (z .start) (numbers w m q l (nextPlace m l i)) (numbers w m q t (nextPlace m t j)) pair₁
+      octets-on =
+          let p = z .above in
+          let f = both _ _ (sym (parts-within (p + w + 1) (setBits w p (getD l i 0)) _ (setBits w p (getD t j 0)) _
+          (bits-between w p (getD l i 0) .1) (behind-octet l (nextPlace m l i)) (bits-between w p (getD t j 0) .1) (behind-octet t (nextPlace m t j)))
+          ∙ rw (numbers-next w m p l i, numbers-next w m p t j) at (z .set)) in (
+            f .1,
+            fits-then (rw (numbers-next w m p l i, numbers-next w m p t j) at (z .held)) (omega arith) (z .fits)
+                (fits-first (r .told p (f .0)) _ _ (behind-octet l (nextPlace m l i)) (behind-octet t (nextPlace m t j))),
+          )
         where
-          behind-octet : (q : ℕ) (o : List ℕ) (f : ℕ) → AllFrom (q + w + 1) (numbers w m (q + w) o f)
-          behind-octet q o f = from-ascending (q + w + 1) (q + w) _ (omega arith) (numbers-ascending w m (q + w) o f)
+          behind-octet : (o : List ℕ) (f : ℕ) → AllFrom (q + 1) (numbers w m q o f)
+          behind-octet o f = from-ascending (q + 1) q _ (omega arith) (numbers-ascending w m q o f)
 
       -- it did not fit
-      pub octets-stop : pair₁ .fits ≡ false → AllWithin many many′ w m l e t k start false
-      octets-stop n = record { told = λ c p. sym (octets-on c p ∙ rw n) }
+      pub octets-stop : pair₁ .fits ≡ false → AllWithin x y w m l e t k pair₁
+      octets-stop n = octets-all {h = q + 1} (fits-lost (octets-on .1) (omega arith) n)
 
       -- it did, and is the last of its block, or is not
-      pub octets-last : ((c f : ℕ) → many c [] f ≡ []) → pair₁ .fits ≡ true → m ≤ getD l i 0 → AllWithin many many′ w m l e t k start true
-      unfolding allIn
-      octets-last none n h = record {
-        told = λ c p.
-            sym (octets-on c p ∙ rw (n, place-end m l i h, numbers-out w m (y .same c p .0 + w) l (length l) (omega arith), none c (pair₁ .from)));
-      }
+      pub octets-last : pair₁ .fits ≡ true → m ≤ getD t j 0 → AllWithin x y w m l e t k pair₁
+      octets-last n h =
+          let v : numbers w m q t (nextPlace m t j) ≡ [] = rw (place-end m t j h) (numbers-out w m q t (length t) (omega arith)) in
+          let o : numbers w m q l (nextPlace m l i) ≡ [] = none-within _ (rw v at (octets-on .0)) in
+          octets-all (rw (v, o) at (octets-on .1))
 
-      pub octets-turn : pair₁ .fits ≡ true → i < length l → getD l i 0 < m → {j₁ : ℕ} → j₁ ≡ nextPlace m t j → OctetsPairing many many′ w m l e t k start pair₁ (i + 1) j₁
-      octets-turn n h less a = record { same = λ c p. (y .same c p .0 + w, octets-on c p ∙ rw (n, place-on m l i h less, ← a)) }
+      pub octets-turn : pair₁ .fits ≡ true → j < length t → getD t j 0 < m → {i₁ : ℕ} → i₁ ≡ nextPlace m l i → OctetsPairing x y w m l e t k pair₁ i₁ (j + 1)
+      octets-turn n h less a =
+          let v : nextPlace m t j ≡ j + 1 = place-on m t j h less in
+          let c = rw (v, ← a) at octets-on in
+          record { start = z .start; places = z .places; above = q; fits = n; set = c .0; held = c .1 }

@@ -4,12 +4,13 @@ use Prim.Native.Nat.{ℕ, zero, suc, _+_, _-_, _*_, _/_, _%_, _^_, _≤_, _<_, m
 use mathlib.Core.Bool.{Bool, true, false}
 use mathlib.Core.List.{List, [], _++_}
 use mathlib.Core.Path.{_≡_, refl, sym, ap, _∙_}
-use native.Mathlib.Nat.{pow-suc}
+use native.Mathlib.Nat.{div-one, pow-suc}
 use native.Mathlib.Numerals.{add-one}
 use native.Mathlib.Omega.{arith}
 use borrow.Author.Tests.{lt-ltb, le-ltb, ltb-true, ltb-false, eq-eqb, ne-eqb, eqb-true, eqb-false}
 use lib.Arith.{mod-mul}
 use lib.Bits.{bitAnd, and-step}
+use lib.Count.{trailingZeros, under}
 use lib.Dec.{ltb, eqb}
 use lib.ListN.{length, getD, drop-of-length-le, List·getD-eq-default}
 use lib.Pow.{pow-pos, shr-shr}
@@ -20,33 +21,21 @@ use Rattle.tree.specs.Block.{keep, setBits, blockNumbers, numbers}
 use Rattle.tree.specs.Order.{AllBelow, AllFrom}
 use Rattle.within.specs.Pairing.{nextPlace, oneOf}
 use Rattle.tree.specs.Fields.{isIn, allIn}
-use Rattle.within.proofs.Apart.{from-ascending, in-front, in-behind, parts-within}
+use Rattle.within.proofs.Apart.{from-ascending, in-front, in-behind, both, parts-within}
 use Rattle.tree.proofs.Ascending.{bits-between}
+use Rattle.tree.proofs.Lowest.{bits-none}
 
 -- ---- one after the other
 
 -- the lowest bit, and the others
-pub bits-next : (w p d : ℕ) (more : List ℕ) → 0 < w → setBits w p d ++ more ≡ oneOf (odd d) (p + 1) ++ (setBits (w - 1) (p + 1) (d / 2) ++ more)
+bits-next : (w p d : ℕ) → setBits (suc w) p d ≡ oneOf (odd d) (p + 1) ++ setBits w (p + 1) (d / 2)
 unfolding setBits
-bits-next zero p d more h = absurd (omega arith)
-bits-next (suc w) p d more h = let n : suc w - 1 ≡ w = omega arith in rw n (go (d % 2) (omega arith))
+bits-next w p d = go (d % 2) (omega arith)
   where
-    go : (b : ℕ) → b < 2 → keep b (p + 1) (setBits w (p + 1) (d / 2)) ++ more ≡ oneOf (eqb b 1) (p + 1) ++ (setBits w (p + 1) (d / 2) ++ more)
+    go : (b : ℕ) → b < 2 → keep b (p + 1) (setBits w (p + 1) (d / 2)) ≡ oneOf (eqb b 1) (p + 1) ++ setBits w (p + 1) (d / 2)
     go zero k = refl
     go (suc zero) k = refl
     go (suc (suc b)) k = absurd (omega arith)
-
--- no bit is left
-pub bits-over : (w p d : ℕ) → w ≤ 0 → setBits w p d ≡ []
-unfolding setBits
-bits-over zero p d h = refl
-bits-over (suc w) p d h = absurd (omega arith)
-
--- in 0 none is set
-bits-zero : (w p : ℕ) → setBits w p 0 ≡ []
-unfolding setBits
-bits-zero zero p = refl
-bits-zero (suc w) p = bits-zero w (p + 1)
 
 -- a block behind the octets is empty
 pub numbers-out : (w m p : ℕ) (l : List ℕ) (i : ℕ) → length l ≤ i → numbers w m p l i ≡ []
@@ -70,7 +59,7 @@ numbers-next w m p l i = go (ltb i (length l)) refl
         first ∙ ap (λ (n : List ℕ). setBits w p (getD l i 0) ++ n) (there (ltb (getD l i 0) m))
     go false e =
         let h : length l ≤ i = ltb-false i (length l) e in
-        numbers-out w m p l i h ∙ rw (List·getD-eq-default l 0 h, bits-zero w p) (sym (numbers-out w m (p + w) l (length l) (omega arith)))
+        numbers-out w m p l i h ∙ rw (List·getD-eq-default l 0 h, bits-none w p) (sym (numbers-out w m (p + w) l (length l) (omega arith)))
 
 -- where the next octet is, and where none is
 pub place-on : (m : ℕ) (l : List ℕ) (i : ℕ) → i < length l → getD l i 0 < m → nextPlace m l i ≡ i + 1
@@ -88,6 +77,14 @@ place-end m l i h = rw (le-ltb (getD l i 0) m h) (go (ltb i (length l)))
 pub place-out : (m : ℕ) (l : List ℕ) (i : ℕ) → length l ≤ i → nextPlace m l i ≡ length l
 unfolding nextPlace
 place-out m l i h = rw (le-ltb i (length l) h)
+
+-- one that ends a block stands among the octets
+pub octet-there : (w m : ℕ) (l : List ℕ) (i : ℕ) → m ≡ 2 ^ w → m ≤ getD l i 0 → i < length l
+octet-there w m l i p h = go (ltb i (length l)) refl
+  where
+    go : (t : Bool) → ltb i (length l) ≡ t → i < length l
+    go true e = ltb-true i (length l) e
+    go false e = absurd (omega (arith, pow-pos w, List·getD-eq-default l 0 (ltb-false i (length l) e)))
 
 -- ---- one bit
 
@@ -148,15 +145,21 @@ keep-within (suc zero) (suc zero) x h k = rw (eq-eqb x x refl)
 keep-within (suc zero) (suc (suc b)) x h k = absurd (omega arith)
 keep-within (suc (suc a)) b x h k = absurd (omega arith)
 
+-- the lowest bits are compared for themselves
+bits-step : (w p a b : ℕ) → allIn (setBits (suc w) p a) (setBits (suc w) p b)
+    ≡ pick (eqb (min (a % 2) (b % 2)) (a % 2)) (allIn (setBits w (p + 1) (a / 2)) (setBits w (p + 1) (b / 2))) false
+unfolding setBits
+bits-step w p a b =
+    rw (keep-split (a % 2) (p + 1) (setBits w (p + 1) (a / 2)), keep-split (b % 2) (p + 1) (setBits w (p + 1) (b / 2)))
+    (parts-within (p + 1 + 1) (keep (a % 2) (p + 1) []) _ (keep (b % 2) (p + 1) []) _
+    (keep-below (a % 2) (p + 1)) (rest-from w (p + 1) (a / 2)) (keep-below (b % 2) (p + 1)) (rest-from w (p + 1) (b / 2))
+    ∙ rw (keep-within (a % 2) (b % 2) (p + 1) (omega arith) (omega arith)))
+
 -- all bits of an octet are set in another exactly if nothing is lost under it
 pub bits-within : (w p a b : ℕ) → allIn (setBits w p a) (setBits w p b) ≡ eqb (bitAnd (a % 2 ^ w) b) (a % 2 ^ w)
 unfolding setBits allIn
 bits-within zero p a b = let z : a % 2 ^ 0 ≡ 0 = omega arith in rw z
-bits-within (suc w) p a b =
-    rw (keep-split (a % 2) (p + 1) (setBits w (p + 1) (a / 2)), keep-split (b % 2) (p + 1) (setBits w (p + 1) (b / 2)))
-    (parts-within (p + 1 + 1) (keep (a % 2) (p + 1) []) _ (keep (b % 2) (p + 1) []) _
-    (keep-below (a % 2) (p + 1)) (rest-from w (p + 1) (a / 2)) (keep-below (b % 2) (p + 1)) (rest-from w (p + 1) (b / 2))
-    ∙ rw (keep-within (a % 2) (b % 2) (p + 1) (omega arith) (omega arith), bits-within w (p + 1) (a / 2) (b / 2)) (sym under))
+bits-within (suc w) p a b = bits-step w p a b ∙ rw (bits-within w (p + 1) (a / 2) (b / 2)) (sym under)
   where
     whole : a % 2 ^ suc w ≡ a / 2 % 2 ^ w * 2 + a % 2
     whole = rw (pow-suc 2 w) (mod-mul a (pow-pos w) (omega arith))
@@ -167,3 +170,30 @@ bits-within (suc w) p a b =
         let high : a % 2 ^ suc w / 2 ≡ a / 2 % 2 ^ w = omega (arith, whole) in
         let both : bitAnd (a % 2 ^ suc w) b ≡ bitAnd (a / 2 % 2 ^ w) (b / 2) * 2 + min (a % 2) (b % 2) = rw (low, high) at (and-step (a % 2 ^ suc w) b) in
         rw (both, whole) (halves (bitAnd (a / 2 % 2 ^ w) (b / 2)) (a / 2 % 2 ^ w) (min (a % 2) (b % 2)) (a % 2) (omega arith) (omega arith))
+
+-- z zeros stand below the lowest bit of another octet: none is set there, and behind it all bits are set in the other again
+abbrev pub Under : ℕ → ℕ → ℕ → ℕ → ℕ → Type 0
+Under w p a b z =
+    (setBits w p a ≡ oneOf (odd (a / 2 ^ z)) (p + (z + 1)) ++ setBits (w - (z + 1)) (p + (z + 1)) (a / 2 ^ z / 2))
+    × (allIn (setBits (w - (z + 1)) (p + (z + 1)) (a / 2 ^ z / 2)) (setBits (w - (z + 1)) (p + (z + 1)) (b / 2 ^ z / 2)) ≡ true)
+
+pub under-lowest : (k w p a b : ℕ) → w ≤ k → 0 < b → b < 2 ^ w → allIn (setBits w p a) (setBits w p b) ≡ true → Under w p a b (trailingZeros k b)
+unfolding trailingZeros setBits
+under-lowest k zero p a b h pos fits set = absurd (omega arith)
+under-lowest zero (suc w) p a b h pos fits set = absurd (omega arith)
+under-lowest (suc k) (suc w) p a b h pos fits set =
+    let s = both _ _ (sym (bits-step w p a b) ∙ set) in
+    go (b % 2) refl (eqb-true _ _ (s .0)) (s .1) (λ (q : 0 < b / 2). under-lowest k w (p + 1) (a / 2) (b / 2) (omega arith) q (omega (arith, pow-suc 2 w)) (s .1))
+  where
+    go : (d : ℕ) → b % 2 ≡ d → min (a % 2) (b % 2) ≡ a % 2 → allIn (setBits w (p + 1) (a / 2)) (setBits w (p + 1) (b / 2)) ≡ true
+        → (0 < b / 2 → Under w (p + 1) (a / 2) (b / 2) (trailingZeros k (b / 2))) → Under (suc w) p a b (under d (trailingZeros k (b / 2)))
+    go zero e low rest next =
+        let r = next (omega arith) in
+        let z = trailingZeros k (b / 2) in
+        let n : p + (suc z + 1) ≡ p + 1 + (z + 1) = omega arith in
+        let i : suc w - (suc z + 1) ≡ w - (z + 1) = omega arith in
+        let s : a / 2 ^ suc z ≡ a / 2 / 2 ^ z = sym (shr-shr a 1 z ∙ ap (λ (j : ℕ). a / 2 ^ j) (omega arith)) in
+        let t : b / 2 ^ suc z ≡ b / 2 / 2 ^ z = sym (shr-shr b 1 z ∙ ap (λ (j : ℕ). b / 2 ^ j) (omega arith)) in
+        let o : a % 2 ≡ 0 = omega (arith, low, e) in
+        rw (o, n, i, s, t) (r .0, r .1)
+    go (suc d) e low rest next = let i : suc w - 1 ≡ w = omega arith in rw (i, div-one a, div-one b) (bits-next w p a, rest)

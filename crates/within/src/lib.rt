@@ -3,8 +3,9 @@ ghost use Prim.Native.Nat.{_+_, _/_, _^_, _≤_, _<_};
 ghost use Rattle.tree.specs.Block.{behind};
 ghost use Rattle.tree.specs.Fields.{codesIn, allIn, hasFirst};
 ghost use lib.ListN.{length, set, getD};
+ghost use mathlib.Core.Bool.{true};
 ghost use mathlib.Core.Path.{_≡_};
-ghost use Rattle.within.specs.Pairing.{nextPlace, BlockWithin, SubWithin, SubsWithinOf, SubsWithin, GroupWithin, ParWithin, ParsWithinOf, ParsWithin, FieldWithin};
+ghost use Rattle.within.specs.Pairing.{nextPlace, BlockWithin, BlockEmpty, GroupWithin, subs, pars, OneWithin, OctetWithin, AllWithin, FieldWithin};
 use tree::Field;
 use tree::bit8;
 use tree::block_behind;
@@ -52,28 +53,6 @@ fn next_place(t: &[u8], k: usize, m: u8) -> usize
     t.len()
 }
 
-// Whether the positions set in the block at a place are all set in the block at a place of other octets.
-fn block_within(s: &[u8], e: usize, t: &[u8], k: usize, w: u32, m: u8) -> bool
-    requires { ⌜ (m ≡ 2 ^ w) × (w ≤ 7) ⌝ }
-    ensures { λ r. ⌜ BlockWithin w m (now (s .entry)) e (now (t .entry)) k r ⌝ }
-{
-    let mut i = e;
-    let mut j = k;
-    while i < s.len() {
-        let mine = s[i];
-        let set = mine % m;
-        if set & octet_or_zero(t, j) != set {
-            return false;
-        }
-        if m <= mine {
-            return true;
-        }
-        j = next_place(t, j, m);
-        i += 1;
-    }
-    true
-}
-
 // Whether all so far was found, and the places behind it in both runs of octets.
 pub struct Paired {
     pub fits: bool,
@@ -81,173 +60,245 @@ pub struct Paired {
     pub to: usize,
 }
 
-// The NPar(3) blocks of one SPar(2) position: set in the one, in the other.
-fn sub_within(s: &[u8], t: &[u8], mine: bool, theirs: bool, pair: Paired) -> Paired
-    requires { ⌜ (length (now s) ≤ 64) × (length (now t) ≤ 64) ⌝ }
-    ensures { λ r. ⌜ SubWithin (now (s .entry)) (now (t .entry)) mine theirs pair r ⌝ }
+// Passes over the block at a place of the other octets where the first have none; the first stay where they are.
+fn passed_over(t: &[u8], k: usize, w: u32, from: usize) -> Paired
+    requires { ⌜ (6 ≤ w) × (w ≤ 7) ⌝ }
+    ensures { λ r. ⌜ (r .fits ≡ true) × (r .from ≡ from) × (r .to ≡ behind (2 ^ w) (now (t .entry)) k) ⌝ }
 {
-    let from = pair.from;
-    let to = pair.to;
-    if !theirs {
-        return Paired {
-            fits: !mine,
-            from,
-            to,
-        };
-    }
-    let next = block_behind(t, to);
-    if !mine {
-        return Paired {
-            fits: true,
-            from,
-            to: next,
-        };
-    }
+    let to = if w == 6 {
+        block_behind(t, k)
+    } else {
+        top_behind(t, k)
+    };
     Paired {
-        fits: block_within(s, from, t, to, 6, 64),
-        from: block_behind(s, from),
-        to: next,
+        fits: true,
+        from,
+        to,
     }
 }
 
-// The same of the SPar(2) positions of an octet of each.
-fn subs_within_of(s: &[u8], t: &[u8], mine: u8, theirs: u8, start: Paired) -> Paired
+// Whether no position is set in the block at a place, where the other octets have none; the others stay where they are.
+fn block_empty(s: &[u8], e: usize, to: usize, w: u32, m: u8) -> Paired
+    requires { ⌜ (m ≡ 2 ^ w) × (w ≤ 7) ⌝ }
+    ensures { λ r. ⌜ BlockEmpty w m (now (s .entry)) e to r ⌝ }
+{
+    let mut i = e;
+    while i < s.len() {
+        let o = s[i];
+        i += 1;
+        if o % m != 0 {
+            return Paired {
+                fits: false,
+                from: i,
+                to,
+            };
+        }
+        if m <= o {
+            return Paired {
+                fits: true,
+                from: i,
+                to,
+            };
+        }
+    }
+    Paired {
+        fits: true,
+        from: i,
+        to,
+    }
+}
+
+// Whether the positions set in the block at a place are all set in the block at a place of other octets.
+fn block_within(s: &[u8], e: usize, t: &[u8], k: usize, w: u32, m: u8) -> Paired
+    requires { ⌜ (m ≡ 2 ^ w) × (6 ≤ w) × (w ≤ 7) ⌝ }
+    ensures { λ r. ⌜ BlockWithin w m (now (s .entry)) e (now (t .entry)) k r ⌝ }
+{
+    let mut i = e;
+    let mut j = k;
+    while i < s.len() {
+        let mine = s[i];
+        let theirs = octet_or_zero(t, j);
+        let set = mine % m;
+        if set & theirs != set {
+            return Paired {
+                fits: false,
+                from: i,
+                to: j,
+            };
+        }
+        i += 1;
+        if m <= theirs {
+            j += 1;
+            if m <= mine {
+                return Paired {
+                    fits: true,
+                    from: i,
+                    to: j,
+                };
+            }
+            return block_empty(s, i, j, w, m);
+        }
+        if m <= mine {
+            return passed_over(t, j, w, i);
+        }
+        if j < t.len() {
+            j += 1;
+        }
+    }
+    passed_over(t, j, w, i)
+}
+
+// The NPar(3) blocks of one SPar(2) position that is set in the other octets: set in the first too, or not.
+fn sub_within(s: &[u8], t: &[u8], mine: bool, pair: Paired) -> Paired
     requires { ⌜ (length (now s) ≤ 64) × (length (now t) ≤ 64) ⌝ }
-    ensures { λ r. ⌜ SubsWithinOf (now (s .entry)) (now (t .entry)) mine theirs start r ⌝ }
+    ensures { λ r. ⌜ OneWithin (subs (now (s .entry))) (subs (now (t .entry))) mine pair r ⌝ }
+{
+    let from = pair.from;
+    let to = pair.to;
+    if mine {
+        return block_within(s, from, t, to, 6, 64);
+    }
+    passed_over(t, to, 6, from)
+}
+
+// The same of the SPar(2) positions of an octet of each: only those set in the other, since none is set in the first alone.
+fn subs_within_of(s: &[u8], t: &[u8], mine: u8, theirs: u8, start: Paired) -> Paired
+    requires { ⌜ (length (now s) ≤ 64) × (length (now t) ≤ 64) × (start .fits ≡ true) ⌝ }
+    ensures { λ r. ⌜ OctetWithin (subs (now (s .entry))) (subs (now (t .entry))) 6 mine theirs start r ⌝ }
 {
     let mut pair = start;
     let mut a = mine;
-    let mut b = theirs;
-    let mut left = 6u32;
-    while 0 < left {
-        pair = sub_within(s, t, a % 2 == 1, b % 2 == 1, pair);
+    let mut b = theirs % 64;
+    while b != 0 {
+        let passed = u8::trailing_zeros(b);
+        a = a >> passed;
+        b = b >> passed >> 1;
+        pair = sub_within(s, t, a % 2 == 1, pair);
         if !pair.fits {
             return pair;
         }
-        a = a / 2;
-        b = b / 2;
-        left -= 1;
+        a = a >> 1;
     }
     pair
 }
 
-// Whether the SPar(2) block at a place lies within that of other octets, with the NPar(3) blocks from the pair's places on.
-fn subs_within(s: &[u8], e: usize, t: &[u8], k: usize, start: Paired) -> bool
+// Whether the SPar(2) block at a place lies within that of other octets, with the NPar(3) blocks behind it.
+fn subs_within(s: &[u8], e: usize, t: &[u8], k: usize) -> Paired
     requires { ⌜ (length (now s) ≤ 64) × (length (now t) ≤ 64) ⌝ }
-    ensures { λ r. ⌜ SubsWithin (now (s .entry)) e (now (t .entry)) k start r ⌝ }
+    ensures { λ r. ⌜ AllWithin (subs (now (s .entry))) (subs (now (t .entry))) 6 64 (now (s .entry)) e (now (t .entry)) k r ⌝ }
 {
-    let mut pair = start;
+    let mut pair = block_within(s, e, t, k, 6, 64);
+    if !pair.fits {
+        return pair;
+    }
     let mut i = e;
     let mut j = k;
-    while i < s.len() {
-        let o = s[i];
-        pair = subs_within_of(s, t, o, octet_or_zero(t, j), pair);
+    while j < t.len() {
+        let o = t[j];
+        pair = subs_within_of(s, t, octet_or_zero(s, i), o, pair);
         if !pair.fits {
-            return false;
+            return pair;
         }
         if 64 <= o {
-            return true;
+            return pair;
         }
-        j = next_place(t, j, 64);
-        i += 1;
+        i = next_place(s, i, 64);
+        j += 1;
     }
-    true
+    pair
 }
 
 // Whether what stands in a Par(2) block behind its NPar(2), which ends before a place, lies within the same in other octets.
-fn group_within(s: &[u8], e: usize, t: &[u8], k: usize) -> bool
+fn group_within(s: &[u8], e: usize, t: &[u8], k: usize) -> Paired
     requires { ⌜ (length (now s) ≤ 64) × (length (now t) ≤ 64) ⌝ }
     ensures { λ r. ⌜ GroupWithin (now (s .entry)) e (now (t .entry)) k r ⌝ }
 {
-    if bit8(s, e) {
-        return true;
-    }
-    let mut j = k;
     if bit8(t, k) {
-        j = t.len();
+        if bit8(s, e) {
+            return Paired {
+                fits: true,
+                from: e,
+                to: k,
+            };
+        }
+        return block_empty(s, e, k, 6, 64);
     }
-    let start = Paired {
-        fits: true,
-        from: block_behind(s, e),
-        to: block_behind(t, j),
-    };
-    subs_within(s, e, t, j, start)
+    if bit8(s, e) {
+        return Paired {
+            fits: true,
+            from: e,
+            to: group_behind(t, k),
+        };
+    }
+    subs_within(s, e, t, k)
 }
 
-// The Par(2) blocks of one SPar(1) position: set in the one, in the other.
-fn par_within(s: &[u8], t: &[u8], mine: bool, theirs: bool, pair: Paired) -> Paired
+// The Par(2) blocks of one SPar(1) position that is set in the other octets: set in the first too, or not.
+fn par_within(s: &[u8], t: &[u8], mine: bool, pair: Paired) -> Paired
     requires { ⌜ (length (now s) ≤ 64) × (length (now t) ≤ 64) ⌝ }
-    ensures { λ r. ⌜ ParWithin (now (s .entry)) (now (t .entry)) mine theirs pair r ⌝ }
+    ensures { λ r. ⌜ OneWithin (pars (now (s .entry))) (pars (now (t .entry))) mine pair r ⌝ }
 {
     let from = pair.from;
     let to = pair.to;
-    if !theirs {
-        return Paired {
-            fits: !mine,
-            from,
-            to,
-        };
-    }
-    let end = block_behind(t, to);
-    let next = group_behind(t, end);
     if !mine {
         return Paired {
             fits: true,
             from,
-            to: next,
+            to: group_behind(t, block_behind(t, to)),
         };
     }
-    let middle = block_behind(s, from);
-    let fits = block_within(s, from, t, to, 6, 64) && group_within(s, middle, t, end);
-    Paired {
-        fits,
-        from: group_behind(s, middle),
-        to: next,
+    let middle = block_within(s, from, t, to, 6, 64);
+    if !middle.fits {
+        return middle;
     }
+    group_within(s, middle.from, t, middle.to)
 }
 
-// The same of the SPar(1) positions of an octet of each.
+// The same of the SPar(1) positions of an octet of each: only those set in the other, since none is set in the first alone.
 fn pars_within_of(s: &[u8], t: &[u8], mine: u8, theirs: u8, start: Paired) -> Paired
-    requires { ⌜ (length (now s) ≤ 64) × (length (now t) ≤ 64) ⌝ }
-    ensures { λ r. ⌜ ParsWithinOf (now (s .entry)) (now (t .entry)) mine theirs start r ⌝ }
+    requires { ⌜ (length (now s) ≤ 64) × (length (now t) ≤ 64) × (start .fits ≡ true) ⌝ }
+    ensures { λ r. ⌜ OctetWithin (pars (now (s .entry))) (pars (now (t .entry))) 7 mine theirs start r ⌝ }
 {
     let mut pair = start;
     let mut a = mine;
-    let mut b = theirs;
-    let mut left = 7u32;
-    while 0 < left {
-        pair = par_within(s, t, a % 2 == 1, b % 2 == 1, pair);
+    let mut b = theirs % 128;
+    while b != 0 {
+        let passed = u8::trailing_zeros(b);
+        a = a >> passed;
+        b = b >> passed >> 1;
+        pair = par_within(s, t, a % 2 == 1, pair);
         if !pair.fits {
             return pair;
         }
-        a = a / 2;
-        b = b / 2;
-        left -= 1;
+        a = a >> 1;
     }
     pair
 }
 
-// Whether the SPar(1) block at a place lies within that of other octets, with the Par(2) blocks from the pair's places on.
-fn pars_within(s: &[u8], e: usize, t: &[u8], k: usize, start: Paired) -> bool
+// Whether the SPar(1) block at a place lies within that of other octets, with the Par(2) blocks behind it.
+fn pars_within(s: &[u8], e: usize, t: &[u8], k: usize) -> Paired
     requires { ⌜ (length (now s) ≤ 64) × (length (now t) ≤ 64) ⌝ }
-    ensures { λ r. ⌜ ParsWithin (now (s .entry)) e (now (t .entry)) k start r ⌝ }
+    ensures { λ r. ⌜ AllWithin (pars (now (s .entry))) (pars (now (t .entry))) 7 128 (now (s .entry)) e (now (t .entry)) k r ⌝ }
 {
-    let mut pair = start;
+    let mut pair = block_within(s, e, t, k, 7, 128);
+    if !pair.fits {
+        return pair;
+    }
     let mut i = e;
     let mut j = k;
-    while i < s.len() {
-        let o = s[i];
-        pair = pars_within_of(s, t, o, octet_or_zero(t, j), pair);
+    while j < t.len() {
+        let o = t[j];
+        pair = pars_within_of(s, t, octet_or_zero(s, i), o, pair);
         if !pair.fits {
-            return false;
+            return pair;
         }
         if 128 <= o {
-            return true;
+            return pair;
         }
-        j = next_place(t, j, 128);
-        i += 1;
+        i = next_place(s, i, 128);
+        j += 1;
     }
-    true
+    pair
 }
 
 // Whether the field at a place lies within the field at a place of other octets.
@@ -255,17 +306,12 @@ fn field_within(s: &[u8], i: usize, t: &[u8], j: usize) -> bool
     requires { ⌜ (length (now s) ≤ 64) × (length (now t) ≤ 64) ⌝ }
     ensures { λ r. ⌜ FieldWithin (now (s .entry)) i (now (t .entry)) j r ⌝ }
 {
-    if !block_within(s, i, t, j, 7, 128) {
+    let first = block_within(s, i, t, j, 7, 128);
+    if !first.fits {
         return false;
     }
-    let mine = top_behind(s, i);
-    let theirs = top_behind(t, j);
-    let start = Paired {
-        fits: true,
-        from: top_behind(s, mine),
-        to: top_behind(t, theirs),
-    };
-    pars_within(s, mine, t, theirs, start)
+    let rest = pars_within(s, first.from, t, first.to);
+    rest.fits
 }
 
 // Whether all codes of the field at a place are codes of the same field in other octets.

@@ -1,58 +1,89 @@
--- `within::block_within` meets its contract. The loop's invariant: what is asked of the blocks is asked of what is left of them (`OctetsPairing`).
+-- `within::block_within` meets its contract. The loop's invariant: what is asked of the blocks is asked of what is left of them (`BlockPairing`).
 -- Assumes nothing.
-use Prim.Native.Nat.{_-_}
-use mathlib.Core.Bool.{true}
-use mathlib.Core.Path.{refl}
+use Prim.Native.Nat.{_-_, _<_}
+use mathlib.Core.Path.{refl, sym}
 use native.Mathlib.Omega.{arith}
 use borrow.Author.Needs.{needs}
 use lib.ListN.{length}
 use lib.Pow.{pow-pos}
-use Rattle.within.proofs.Beside.{plainly, at-none, block-plain, octet-lost, octet-found}
-use Rattle.within.proofs.Stepping.{OctetsPairing, octets-none, octets-end, octets-stop, octets-last, octets-turn}
+use Rattle.tree.proofs.Forms.{behind-stop}
+use Rattle.within.proofs.Beside.{BlockPairing, block-start, block-done, block-lost, block-last, block-rest, block-turn, block-alone}
+use Rattle.within.proofs.Taking.{octet-there}
 use Rattle.within.proofs.block_within.Statement.{statement}
 use Rattle.within.proofs.block_within.Tie as tie
 
 abbrev Inv-loop : tie.InvT-loop
-Inv-loop s e t k w m i₀ j₀ i j = OctetsPairing plainly plainly w m s e t k (at-none true) (at-none true) i j
+Inv-loop s e t k w m i₀ j₀ i j = BlockPairing w m s e t k i j
 
 abbrev μ-loop : tie.MeasureT-loop
 μ-loop s e t k w m i₀ j₀ i j = length s - i
 
 loop-holds : tie.Need-loop-holds Inv-loop μ-loop
-loop-holds c = octets-none (at-none true)
+loop-holds c = block-start
 
 shared-slice-read-mine : tie.Need-shared-slice-read-mine Inv-loop μ-loop
 shared-slice-read-mine c = search needs
 
-rem-set : tie.Need-rem-set Inv-loop μ-loop
-rem-set c = omega (arith, pow-pos (c .before .before .before .before .before .args .w))
-
 octet-or-zero-requires : tie.Need-octet-or-zero-requires Inv-loop μ-loop
 octet-or-zero-requires c κs = search needs
 
+rem-set : tie.Need-rem-set Inv-loop μ-loop
+rem-set c = omega (arith, pow-pos (c .before .before .before .before .before .before .args .w))
+
 returns : tie.Need-returns Inv-loop μ-loop
-returns c = let z = c .before in let b = z .before .before in let a = b .before .before .before .before in
-    block-plain (octets-stop (b .before .loop .inv) (rw (z .octet-or-zero .ensures) at (octet-lost (a .args .w) (a .args .m) _ _ (a .pre .0) (c .if1 .taken))) refl)
-
-returns-2 : tie.Need-returns-2 Inv-loop μ-loop
-returns-2 c = let z = c .before .before in let b = z .before .before in let a = b .before .before .before .before in
-    block-plain (octets-last (b .before .loop .inv) (rw (z .octet-or-zero .ensures) at (octet-found (a .args .w) (a .args .m) _ _ (a .pre .0) (c .before .if1 .left))) (λ d f. refl) refl (c .if2 .taken))
-
-next-place-requires : tie.Need-next-place-requires Inv-loop μ-loop
-next-place-requires c κs = search needs
+returns c = let z = c .before in let b = z .before .before in
+    block-lost (b .before .loop .inv) (b .before .before .before .before .pre .0) (rw (z .octet-or-zero .ensures) at (c .if1 .taken)) refl
 
 add-i : tie.Need-add-i Inv-loop μ-loop
 add-i c = omega arith
+
+-- an octet that ends the second block stands there
+stands : (c : tie.Then2 Inv-loop μ-loop) → let b = c .before .before .before .before in b .before .loop .j < length (b .before .before .before .before .args .t .now)
+stands c = let z = c .before .before in let l = z .before .before .before in let a = l .before .before .before in
+    octet-there (a .args .w) (a .args .m) (a .args .t .now) (l .loop .j) (a .pre .0) (rw (z .octet-or-zero .ensures) at (c .if2 .taken))
+
+add-j : tie.Need-add-j Inv-loop μ-loop
+add-j c = let there = stands c in omega arith
+
+returns-2 : tie.Need-returns-2 Inv-loop μ-loop
+returns-2 c = let i = c .before in let n = i .before in let z = n .before in let b = z .before .before in let a = b .before .before .before .before in let v = z .octet-or-zero .ensures in
+    block-last (b .before .loop .inv) (a .pre .0) (rw v at (n .if1 .left)) (b .loop-test .taken) (c .if3 .taken) refl refl (sym (behind-stop _ _ _ (stands i) (rw v at (i .if2 .taken))))
+
+block-empty-requires : tie.Need-block-empty-requires Inv-loop μ-loop
+block-empty-requires c κs = search needs
+
+returns-3 : tie.Need-returns-3 Inv-loop μ-loop
+returns-3 c = let l = c .before in let i = l .before in let n = i .before in let z = n .before in let b = z .before .before in let a = b .before .before .before .before in let v = z .octet-or-zero .ensures in
+    block-rest (b .before .loop .inv) (a .pre .0) (rw v at (n .if1 .left)) (b .loop-test .taken) (l .if3 .left) (stands i) (rw v at (i .if2 .taken)) (c .block-empty .ensures)
+
+passed-over-requires : tie.Need-passed-over-requires Inv-loop μ-loop
+passed-over-requires c κs = search needs
+
+returns-4 : tie.Need-returns-4 Inv-loop μ-loop
+returns-4 c = let l = c .before in let n = l .before .before in let z = n .before in let b = z .before .before in let a = b .before .before .before .before in let v = z .octet-or-zero .ensures in let e = c .passed-over .ensures in
+    block-last (b .before .loop .inv) (a .pre .0) (rw v at (n .if1 .left)) (b .loop-test .taken) (l .if4 .taken) (e .0) (e .1) (rw (← (a .pre .0)) at (e .2))
+
+add-j-2 : tie.Need-add-j-2 Inv-loop μ-loop
+add-j-2 c = search needs
 
 loop-less : tie.Need-loop-less Inv-loop μ-loop
 loop-less c = omega arith
 
 loop-again : tie.Need-loop-again Inv-loop μ-loop
-loop-again c = let z = c .before .before .before in let b = z .before .before in let a = b .before .before .before .before in
-    octets-turn (b .before .loop .inv) (rw (z .octet-or-zero .ensures) at (octet-found (a .args .w) (a .args .m) _ _ (a .pre .0) (c .before .before .if1 .left))) refl (b .loop-test .taken) (c .before .if2 .left) (c .next-place .ensures)
+loop-again c = let l = c .before in let i = l .before in let n = i .before in let z = n .before in let b = z .before .before in let a = b .before .before .before .before in let v = z .octet-or-zero .ensures in block-turn (b .before .loop .inv) (a .pre .0) (rw v at (n .if1 .left)) (b .loop-test .taken) (l .if4 .left) (c .if5 .taken) (rw v at (i .if2 .left))
 
-returns-3 : tie.Need-returns-3 Inv-loop μ-loop
-returns-3 c = block-plain (octets-end (c .before .loop .inv) (λ d f. refl) (c .loop-test .left))
+loop-less-2 : tie.Need-loop-less-2 Inv-loop μ-loop
+loop-less-2 c = omega arith
+
+loop-again-2 : tie.Need-loop-again-2 Inv-loop μ-loop
+loop-again-2 c = let l = c .before in let n = l .before .before in let z = n .before in let b = z .before .before in let a = b .before .before .before .before in let v = z .octet-or-zero .ensures in block-alone (b .before .loop .inv) (a .pre .0) (rw v at (n .if1 .left)) (b .loop-test .taken) (l .if4 .left) (c .if5 .left)
+
+passed-over-requires-2 : tie.Need-passed-over-requires-2 Inv-loop μ-loop
+passed-over-requires-2 c κs = search needs
+
+returns-5 : tie.Need-returns-5 Inv-loop μ-loop
+returns-5 c = let b = c .before in let a = b .before .before .before .before in let e = c .passed-over2 .ensures in
+    block-done (b .before .loop .inv) (b .loop-test .left) (e .0) (e .1) (rw (← (a .pre .0)) at (e .2))
 
 pub block-within-spec : {M : Type 1} → statement M
 block-within-spec =
@@ -62,12 +93,20 @@ block-within-spec =
     μ-loop
     loop-holds
     shared-slice-read-mine
-    rem-set
     octet-or-zero-requires
+    rem-set
     returns
-    returns-2
-    next-place-requires
     add-i
+    add-j
+    returns-2
+    block-empty-requires
+    returns-3
+    passed-over-requires
+    returns-4
+    add-j-2
     loop-less
     loop-again
-    returns-3)
+    loop-less-2
+    loop-again-2
+    passed-over-requires-2
+    returns-5)

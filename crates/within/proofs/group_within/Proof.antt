@@ -1,44 +1,57 @@
--- `within::group_within` meets its contract: the first has no SPar(2), or its SPar(2) block is compared.
+-- `within::group_within` meets its contract: one of the two has no SPar(2), or the SPar(2) blocks are compared.
 -- Assumes nothing.
-use mathlib.Core.Logic.{⊎-elim, inl, inr}
-use mathlib.Core.Path.{sym, _∙_}
+use mathlib.Core.Path.{refl, sym, _∙_}
 use borrow.Author.Needs.{needs}
-use Rattle.within.proofs.Beside.{group-none, group-some}
+use Rattle.tree.proofs.Forms.{group-in}
+use Rattle.within.proofs.Beside.{group-none, group-past, group-alone, group-both}
 use Rattle.within.proofs.group_within.Statement.{statement}
 use Rattle.within.proofs.group_within.Tie as tie
 
 bit8-requires : tie.Need-bit8-requires
 bit8-requires c κs = search needs
 
-returns : tie.Need-returns
-returns c = group-none _ _ _ _ (sym (c .before .bit8 .ensures) ∙ c .if1 .taken)
-
 bit8-requires-2 : tie.Need-bit8-requires-2
 bit8-requires-2 c κs = search needs
 
-block-behind-requires : tie.Need-block-behind-requires
-block-behind-requires c κs = search needs
+returns : tie.Need-returns
+returns c = let f = c .before in let i = f .before in
+    group-none _ _ _ _ (sym (f .bit82 .ensures) ∙ c .if2 .taken) refl refl (sym (group-past _ _ (sym (i .before .bit8 .ensures) ∙ i .if1 .taken)))
 
-block-behind-requires-2 : tie.Need-block-behind-requires-2
-block-behind-requires-2 c κs = search needs
+block-empty-requires : tie.Need-block-empty-requires
+block-empty-requires c κs = search needs
+
+returns-2 : tie.Need-returns-2
+returns-2 c = let n = c .before in let f = n .before in let i = f .before in
+    group-alone _ _ _ _ (sym (f .bit82 .ensures) ∙ n .if2 .left) (sym (i .before .bit8 .ensures) ∙ i .if1 .taken) (c .block-empty .ensures)
+
+bit8-requires-3 : tie.Need-bit8-requires-3
+bit8-requires-3 c κs = search needs
+
+group-behind-requires : tie.Need-group-behind-requires
+group-behind-requires c κs = search needs
+
+returns-3 : tie.Need-returns-3
+returns-3 c = let i = c .before in let f = i .before in let b = f .before .before .before .before .before in
+    group-none _ _ _ _ (sym (f .bit83 .ensures) ∙ i .if3 .taken) refl refl (c .group-behind .ensures ∙ group-in _ _ (b .pre .1))
 
 subs-within-requires : tie.Need-subs-within-requires
 subs-within-requires c κs = search needs
 
-returns-2 : tie.Need-returns-2
-returns-2 c = let y = c .before in let x = y .before in let j = x .before in let e = j .before in let n = e .before in
-    group-some _ _ _ _ _ _ _ (sym (n .before .bit8 .ensures) ∙ n .if1 .left)
-    (⊎-elim (λ z. inl (sym (e .bit82 .ensures) ∙ z .0 .taken, z .1)) (λ z. inr (sym (e .bit82 .ensures) ∙ z .0 .left, z .1)) (j .if2 .came))
-    (x .block-behind .ensures) (y .block-behind2 .ensures) (c .subs-within .ensures)
+returns-4 : tie.Need-returns-4
+returns-4 c = let n = c .before in let f = n .before in let i = f .before in
+    group-both _ _ _ _ (sym (f .bit83 .ensures) ∙ n .if3 .left) (sym (i .before .bit8 .ensures) ∙ i .if1 .left) (c .subs-within .ensures)
 
 pub group-within-spec : {M : Type 1} → statement M
 group-within-spec =
     tie.close
     (tie.spec
     bit8-requires
-    returns
     bit8-requires-2
-    block-behind-requires
-    block-behind-requires-2
+    returns
+    block-empty-requires
+    returns-2
+    bit8-requires-3
+    group-behind-requires
+    returns-3
     subs-within-requires
-    returns-2)
+    returns-4)
