@@ -6,7 +6,7 @@ ghost use Prim.Native.Nat.{_+_, _-_, _*_, _%_, _^_, _≤_, _<_};
 ghost use lib.ListN.{length, getD, set};
 ghost use Rattle.tree.specs.Codes.{fieldBase};
 ghost use Rattle.tree.specs.Fields.{isIn};
-ghost use Rattle.writer.specs.Meaning.{shaped, allShaped, ascending, parentOf, allParented};
+ghost use Rattle.writer.specs.Meaning.{shaped, allShaped, ascending, allParented};
 ghost use Rattle.writer.specs.Written.{passed, skipped, carried, block, run, from, positions, subsWritten, lowerWritten, parWritten, parsWritten, written};
 ghost use Rattle.message.specs.Kinds.{known};
 ghost use Rattle.message.specs.Reader.{mostOctets};
@@ -104,29 +104,24 @@ fn contains(list: &[u32], code: u32) -> bool
     false
 }
 
-// What a code stands under.
-fn parent_of(code: u32) -> u32
-    ensures { λ r. ⌜ r ≡ parentOf code ⌝ }
-{
-    if 0 < code % 512 {
-        return code - code % 512;
-    }
-    code - code % 262144
-}
-
 // Whether a code needs no parent, or its parent is the last code before it with n = 0, group, or with t = n = 0, top.
 fn stands_under(code: u32, top: u32, group: u32) -> bool
     ensures { λ r. ⌜ r ≡ standsUnder code top group ⌝ }
 {
-    let parent = parent_of(code);
+    let n = code % 512;
+    if 0 < n {
+        let above = code - n;
+        if above % 134217728 == 0 {
+            return true;
+        }
+        return above == group;
+    }
+    let parent = code - code % 262144;
     if parent == code {
         return true;
     }
     if parent % 134217728 == 0 {
         return true;
-    }
-    if 0 < code % 512 {
-        return parent == group;
     }
     parent == top
 }
@@ -147,9 +142,9 @@ fn are_parented(list: &[u32]) -> bool
         }
         if code % 512 == 0 {
             group = code;
-        }
-        if code % 262144 == 0 {
-            top = code;
+            if code % 262144 == 0 {
+                top = code;
+            }
         }
         i += 1;
     }

@@ -47,10 +47,17 @@ loop-less : tie.Need-loop-less Inv-loop μ-loop
 loop-less c = omega arith
 
 loop-again : tie.Need-loop-again Inv-loop μ-loop
-loop-again c = let e = c .before .before in let p = e .before in let x = here (p .before .before) in
+loop-again c = let e = c .before in let p = e .before in let x = here (p .before .before) in
+    let came = c .if2 .came in
     parenting-turn x (sym (p .stands-under .ensures) ∙ not-false _ (e .if1 .left))
-    (⊎-elim (λ w. latest-take (x .groups) (x .up) (w .0 .taken) (w .1)) (λ w. latest-pass (x .groups) (x .up) (w .0 .left) (w .1)) (c .before .if2 .came))
-    (⊎-elim (λ w. latest-take (x .tops) (x .up) (w .0 .taken) (w .1)) (λ w. latest-pass (x .tops) (x .up) (w .0 .left) (w .1)) (c .if3 .came))
+    (⊎-elim
+    (λ w. latest-take (x .groups) (x .up) (w .0 .taken) (w .3))
+    (⊎-elim (λ w. latest-take (x .groups) (x .up) (w .0 .taken) (w .3)) (λ w. latest-pass (x .groups) (x .up) (w .0 .left) (w .2)))
+    came)
+    (⊎-elim
+    (λ w. latest-take (x .tops) (x .up) (w .1 .taken) (w .2))
+    (⊎-elim (λ w. latest-pass (x .tops) (x .up) (w .1 .left) (w .2)) (λ w. latest-pass (x .tops) (x .up) (λ z. w .0 .left (omega (arith, z))) (w .1)))
+    came)
 
 returns-2 : tie.Need-returns-2 Inv-loop μ-loop
 returns-2 c = let l = c .before in parenting-end (rw (drop-of-length-le (l .before .before .args .list .now) {i = l .loop .i} (c .loop-test .left)) at (l .loop .inv))
