@@ -21,7 +21,8 @@ use Rattle.tree.specs.declared.Form.{Form}
 use Rattle.tree.specs.declared.Form.the-variants.{Fine, Wrong}
 use Rattle.tree.proofs.Ascending.{bits-between}
 use Rattle.tree.proofs.Forms.{form-out}
-use Rattle.within.proofs.Taking.{in-bits, bits-within}
+use Rattle.tree.proofs.Lowest.{in-bits}
+use Rattle.within.proofs.Taking.{bits-within}
 use Rattle.writer.specs.Minimal.{both, fullAtEnd, tight}
 use Rattle.writer.proofs.Putting.{drop-next}
 use Rattle.good.specs.Judging.{allNamed, goodBlock}

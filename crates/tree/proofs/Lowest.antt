@@ -1,18 +1,21 @@
--- The lowest bit set in an octet, found by counting the zeros below it; and what is known of a field before it is read.
+-- The lowest bit set in an octet, found by counting the zeros below it; a bit by its number; and what is known of a field before it is read.
 -- Assumes nothing.
 use Prim.Native.Nat.{ℕ, zero, suc, _+_, _-_, _/_, _%_, _^_, _<_, _≤_}
 use mathlib.Core.Path.{_≡_, refl, sym, ap, _∙_}
+use mathlib.Core.Bool.{false}
 use mathlib.Core.List.{List, [], _∷_}
 use native.Mathlib.Nat.{div-one, pow-suc}
 use native.Mathlib.Numerals.{add-one}
 use native.Mathlib.Omega.{arith}
-use borrow.Author.Tests.{le-ltb, lt-ltb}
+use borrow.Author.Tests.{le-ltb, lt-ltb, eq-eqb, ne-eqb}
 use lib.Count.{trailingZeros, under}
+use lib.Dec.{eqb}
 use lib.ListN.{length}
 use lib.Pow.{field, mod-mod-pow, shr-shr}
-use Rattle.tree.specs.Block.{setBits}
+use Rattle.octets.specs.Bits.{odd}
+use Rattle.tree.specs.Block.{keep, setBits}
 use Rattle.tree.specs.Codes.{fieldCodes}
-use Rattle.tree.specs.Fields.{baseOf, codesIn}
+use Rattle.tree.specs.Fields.{baseOf, codesIn, isIn}
 use Rattle.tree.specs.declared.Field.{Field}
 use Rattle.tree.specs.declared.Field.the-variants.{Identification, Standard}
 
@@ -73,3 +76,40 @@ codes-short f l at h e = rw (e, le-ltb 64 (length l) h)
 pub base-small : (f : Field) → baseOf f ≤ 268435456
 base-small Identification = omega arith
 base-small Standard = omega arith
+
+-- ---- a bit by its number
+
+-- no bit has a number at or below the one from which they are numbered
+bits-above : (x w p d : ℕ) → x ≤ p → isIn x (setBits w p d) ≡ false
+unfolding setBits isIn
+bits-above x zero p d h = refl
+bits-above x (suc w) p d h = go (d % 2) (bits-above x w (p + 1) (d / 2) (omega arith))
+  where
+    go : (b : ℕ) → isIn x (setBits w (p + 1) (d / 2)) ≡ false → isIn x (keep b (p + 1) (setBits w (p + 1) (d / 2))) ≡ false
+    go zero e = e
+    go (suc b) e = rw (ne-eqb (p + 1) x (λ z. omega arith)) e
+
+-- a bit is set exactly if its number is among those of the octet
+pub in-bits : (w p i d : ℕ) → i < w → isIn (p + i + 1) (setBits w p d) ≡ odd (d / 2 ^ i)
+unfolding setBits isIn
+in-bits zero p i d h = absurd (omega arith)
+in-bits (suc w) p zero d h =
+    let n : p + 0 + 1 ≡ p + 1 = omega arith in
+    let q : d / 1 ≡ d = omega arith in
+    rw (n, q) (go (d % 2) (omega arith))
+  where
+    go : (b : ℕ) → b < 2 → isIn (p + 1) (keep b (p + 1) (setBits w (p + 1) (d / 2))) ≡ eqb b 1
+    go zero k = bits-above (p + 1) w (p + 1) (d / 2) (omega arith)
+    go (suc zero) k = rw (eq-eqb (p + 1) (p + 1) refl)
+    go (suc (suc b)) k = absurd (omega arith)
+in-bits (suc w) p (suc i) d h =
+    let n : p + suc i + 1 ≡ p + 1 + i + 1 = omega arith in
+    let s : 1 + i ≡ suc i = omega arith in
+    rw n (go (d % 2) (in-bits w (p + 1) i (d / 2) (omega arith) ∙ ap odd (shr-shr d 1 i ∙ ap (λ (k : ℕ). d / 2 ^ k) s)))
+  where
+    S : List ℕ
+    S = setBits w (p + 1) (d / 2)
+
+    go : (b : ℕ) → isIn (p + 1 + i + 1) S ≡ odd (d / 2 ^ suc i) → isIn (p + 1 + i + 1) (keep b (p + 1) S) ≡ odd (d / 2 ^ suc i)
+    go zero e = e
+    go (suc b) e = rw (ne-eqb (p + 1) (p + 1 + i + 1) (λ z. omega arith)) e

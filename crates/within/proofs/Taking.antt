@@ -21,7 +21,7 @@ use Rattle.tree.specs.Block.{keep, setBits, blockNumbers, numbers}
 use Rattle.tree.specs.Order.{AllBelow, AllFrom}
 use Rattle.within.specs.Pairing.{nextPlace, oneOf}
 use Rattle.tree.specs.Fields.{isIn, allIn}
-use Rattle.within.proofs.Apart.{from-ascending, in-front, in-behind, both, parts-within}
+use Rattle.within.proofs.Apart.{from-ascending, both, parts-within}
 use Rattle.tree.proofs.Ascending.{bits-between}
 use Rattle.tree.proofs.Lowest.{bits-none}
 
@@ -102,28 +102,6 @@ keep-below (suc b) x = (omega arith, tt)
 -- and the bits behind it are not
 rest-from : (w p d : ℕ) → AllFrom (p + 1) (setBits w p d)
 rest-from w p d = from-ascending (p + 1) p (setBits w p d) (omega arith) (bits-between w p d .0)
-
-keep-in : (b x : ℕ) → b < 2 → isIn x (keep b x []) ≡ eqb b 1
-unfolding isIn
-keep-in zero x h = refl
-keep-in (suc zero) x h = rw (eq-eqb x x refl)
-keep-in (suc (suc b)) x h = absurd (omega arith)
-
--- a bit is set exactly if its number is among those of the octet
-pub in-bits : (w p i d : ℕ) → i < w → isIn (p + i + 1) (setBits w p d) ≡ odd (d / 2 ^ i)
-unfolding setBits
-in-bits zero p i d h = absurd (omega arith)
-in-bits (suc w) p zero d h =
-    let n : p + 0 + 1 ≡ p + 1 = omega arith in
-    let whole : d / 2 ^ 0 ≡ d = omega arith in
-    rw (n, whole, keep-split (d % 2) (p + 1) (setBits w (p + 1) (d / 2)))
-    (in-front (p + 1) (p + 1 + 1) (keep (d % 2) (p + 1) []) _ (omega arith) (rest-from w (p + 1) (d / 2)) ∙ keep-in (d % 2) (p + 1) (omega arith))
-in-bits (suc w) p (suc i) d h =
-    let n : p + suc i + 1 ≡ p + 1 + i + 1 = omega arith in
-    let next : 1 + i ≡ suc i = omega arith in
-    let half : d / 2 / 2 ^ i ≡ d / 2 ^ suc i = rw next at (shr-shr d 1 i) in
-    rw (n, keep-split (d % 2) (p + 1) (setBits w (p + 1) (d / 2)), ← half)
-    (in-behind (p + 1 + i + 1) (p + 1 + 1) (keep (d % 2) (p + 1) []) _ (omega arith) (keep-below (d % 2) (p + 1)) ∙ in-bits w (p + 1) i (d / 2) (omega arith))
 
 -- ---- the bits of one octet in another
 

@@ -1,7 +1,7 @@
 -- NS and what announces it: bit 7 of the first NPar(1) octet of I is code 1.0.0.7, and no other bit of a message is. And NS is
 -- well-formed where it stands in a message exactly if it is by itself.
 -- Assumes nothing.
-use Prim.Native.Nat.{ℕ, zero, suc, _+_, _-_, _*_, _/_, _%_, _^_, _≤_, _<_}
+use Prim.Native.Nat.{ℕ, zero, suc, _+_, _-_, _*_, _/_, _%_, _≤_, _<_}
 use mathlib.Core.Bool.{Bool, true, false, not}
 use mathlib.Core.List.{List, [], _∷_, _++_}
 use mathlib.Core.Path.{_≡_, refl, sym, ap, _∙_}
@@ -9,7 +9,6 @@ use native.Mathlib.Omega.{arith}
 use borrow.Author.Tests.{ltb-true, leb-true, eqb-true, lt-ltb, le-leb, eq-eqb, ne-eqb}
 use lib.Dec.{ltb, leb, eqb}
 use lib.ListN.{length, getD, drop, length-drop}
-use lib.Pow.{shr-shr}
 use lib.Seq.{getD-drop}
 use Rattle.octets.specs.Bits.{odd}
 use Rattle.octets.specs.Places.{pick}
@@ -20,6 +19,7 @@ use Rattle.tree.specs.Fields.{isIn}
 use Rattle.tree.specs.declared.Form.{Form}
 use Rattle.tree.specs.declared.Form.the-variants.{Fine, Left}
 use Rattle.tree.proofs.Forms.{is-fine}
+use Rattle.tree.proofs.Lowest.{in-bits}
 use Rattle.message.specs.Kinds.{hasFields, typeOf}
 use Rattle.message.specs.Nonstandard.{nsAnnounced, nsForm, tailForm}
 use Rattle.message.specs.Reader.{standardAt, messageCodes, hasNs}
@@ -110,34 +110,6 @@ unfolding isIn
 in-first-only x [] r h = above-not x r h
 in-first-only x (y ∷ a) r h = rw (in-first-only x a r h)
 
--- a bit of an octet is set exactly if its number is listed
-in-bits : (w p d i : ℕ) → i < w → isIn (p + i + 1) (setBits w p d) ≡ odd (d / 2 ^ i)
-unfolding setBits isIn
-in-bits zero p d i h = absurd (omega arith)
-in-bits (suc w) p d zero h =
-    let n : p + 0 + 1 ≡ p + 1 = omega arith in
-    let q : d / 1 ≡ d = omega arith in
-    rw (n, q) (go (d % 2) (omega arith))
-  where
-    S : List ℕ
-    S = setBits w (p + 1) (d / 2)
-
-    go : (b : ℕ) → b < 2 → isIn (p + 1) (keep b (p + 1) S) ≡ eqb b 1
-    go zero k = above-not (p + 1) S (above-bits (p + 1) w (p + 1) (d / 2) (omega arith))
-    go (suc zero) k = rw (eq-eqb (p + 1) (p + 1) refl)
-    go (suc (suc b)) k = absurd (omega arith)
-in-bits (suc w) p d (suc i) h =
-    let n : p + suc i + 1 ≡ p + 1 + i + 1 = omega arith in
-    let s : 1 + i ≡ suc i = omega arith in
-    rw n (go (d % 2) (in-bits w (p + 1) (d / 2) i (omega arith) ∙ ap odd (shr-shr d 1 i ∙ ap (λ (k : ℕ). d / 2 ^ k) s)))
-  where
-    S : List ℕ
-    S = setBits w (p + 1) (d / 2)
-
-    go : (b : ℕ) → isIn (p + 1 + i + 1) S ≡ odd (d / 2 ^ suc i) → isIn (p + 1 + i + 1) (keep b (p + 1) S) ≡ odd (d / 2 ^ suc i)
-    go zero e = e
-    go (suc b) e = rw (ne-eqb (p + 1) (p + 1 + i + 1) (λ z. omega arith)) e
-
 -- bit 7 of the octet with which a block of level 1 begins is its seventh parameter, and so is no other, nor what stands behind
 first-seven : (b : ℕ) (l r : List ℕ) → Above (b + 7) r → isIn (b + 7) (blockNumbers 7 128 b l ++ r) ≡ odd (getD l 0 0 / 64)
 unfolding blockNumbers Above
@@ -148,7 +120,7 @@ first-seven b (o ∷ l) r h =
     let n : b + 6 + 1 ≡ x = omega arith in
     in-first-only x (setBits 7 b o ++ P) r h
     ∙ in-first-only x (setBits 7 b o) P (above-pick x (ltb o 128) (blockNumbers 7 128 x l) [] (above-numbers x 7 128 x l (omega arith)) tt)
-    ∙ rw n at (in-bits 7 b o 6 (omega arith))
+    ∙ rw n at (in-bits 7 b 6 o (omega arith))
 
 -- of the codes of a field above b, b.0.0.7 is that bit of its first octet
 pub field-seven : (b : ℕ) (l : List ℕ) (e : ℕ) → isIn (b + 7) (fieldCodes b l e) ≡ odd (getD l e 0 / 64)

@@ -1,6 +1,6 @@
 -- `writer::put_position` meets its contract: the octets before the position are passed, and its octet has no bit there yet (`Bit`).
 -- Assumes nothing.
-use Prim.Native.Nat.{_+_, _-_, _/_, _%_, _^_, _<_}
+use Prim.Native.Nat.{_+_, _-_, _/_, _%_}
 use mathlib.Core.Path.{_≡_}
 use native.Mathlib.Nat.{div-mul-le-self, div-eq-of-lt, mod-eq-of-lt}
 use native.Mathlib.Omega.{arith}
