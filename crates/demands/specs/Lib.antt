@@ -1,0 +1,11 @@
+pub mod Returning
+pub mod Untouched
+pub mod Given
+pub mod Sent
+pub mod Proposals
+pub mod Cells
+pub mod Calls
+pub mod DemandOne
+pub mod DemandTwo
+pub mod DemandThree
+pub mod PositionsProved
