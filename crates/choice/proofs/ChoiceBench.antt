@@ -13,12 +13,9 @@ use Rattle.names.specs.Named.{rowsUnder, rowAt, rowOf}
 use Rattle.good.specs.Good.{allStandard, goodField}
 use Rattle.choice.specs.Wishes.{wishesIn, wishesOf, standardCodes, goodRecords}
 use Rattle.choice.specs.Tables.{allInside, tablesNo}
-use Rattle.choice.specs.Choosing.{farCodes, unheard, firstSuiting, choice}
-use Rattle.choice.specs.Judging.{fitsSome, fitsReady, verdict, nakOf}
-use Rattle.choice.specs.declared.Choice.the-variants.{Chosen, NoChoice}
+use Rattle.choice.specs.Choosing.{farCodes, unheard, chosen, refused, firstSuiting, choice}
+use Rattle.choice.specs.Judging.{fitsSome, fitsReady, verdict}
 use Rattle.choice.specs.declared.Pick.{Pick}
-use Rattle.choice.specs.declared.Verdict.{Verdict}
-use Rattle.choice.specs.declared.Verdict.the-variants.{Accepted, NotReady, NoFit}
 
 -- the wish of the bench, as an own table and as a record, ready and not
 abbrev field : List ℕ
@@ -50,7 +47,7 @@ abbrev one : ℕ → ℕ → Pick
 one number at = record { number = number; at = at; length = 4 }
 
 -- the verdict on the MS with these octets, whose S is at place 3
-abbrev judged : List ℕ → List ℕ → Verdict
+abbrev judged : List ℕ → List ℕ → ℕ
 judged s run = verdict (codesIn Standard s 3) (wishesOf run)
 
 pub record Positions : Type 0 where
@@ -67,17 +64,17 @@ pub record Positions : Type 0 where
   pub no-spar : tablesNo field (0x01 ∷ 0x02 ∷ nothing) ≡ 3
   pub outside : tablesNo nothing otherWish ≡ 4
   -- the choice for the far list: the first that is ready; none is where the own table or the far list lacks it
-  pub chosen : choice (standardCodes wide) (farCodes far 3) readyWish ≡ Chosen (one 1 2)
-  pub second : choice (standardCodes wide) (farCodes far 3) (otherWish ++ readyWish) ≡ Chosen (one 2 8)
-  pub unready : choice (standardCodes wide) (farCodes far 3) otherWish ≡ NoChoice
-  pub not-own : choice (standardCodes nothing) (farCodes far 3) readyWish ≡ NoChoice
-  pub not-far : choice (standardCodes wide) (farCodes nothing 0) readyWish ≡ NoChoice
-  pub unlisted : choice [] unheard readyWish ≡ Chosen (one 1 2)
+  pub first : choice (standardCodes wide) (farCodes far 3) readyWish ≡ chosen (one 1 2)
+  pub second : choice (standardCodes wide) (farCodes far 3) (otherWish ++ readyWish) ≡ chosen (one 2 8)
+  pub unready : choice (standardCodes wide) (farCodes far 3) otherWish ≡ refused 11
+  pub not-own : choice (standardCodes nothing) (farCodes far 3) readyWish ≡ refused 11
+  pub not-far : choice (standardCodes wide) (farCodes nothing 0) readyWish ≡ refused 11
+  pub unlisted : choice [] unheard readyWish ≡ chosen (one 1 2)
   -- MS 21 80 80 80 81 02 D8 is NAK(3), and 21 89 80 80 81 02 D0 is accepted; to a wish not ready NAK(2)
-  pub refused : nakOf (judged (0x21 ∷ 0x80 ∷ 0x80 ∷ 0x80 ∷ 0x81 ∷ 0x02 ∷ 0xd8 ∷ []) readyWish) ≡ 3
-  pub accepted : judged (0x21 ∷ 0x89 ∷ 0x80 ∷ 0x80 ∷ 0x81 ∷ 0x02 ∷ 0xd0 ∷ []) readyWish ≡ Accepted
-  pub not-ready : judged (0x21 ∷ 0x89 ∷ 0x80 ∷ 0x80 ∷ 0x81 ∷ 0x02 ∷ 0xd0 ∷ []) otherWish ≡ NotReady
-  pub empty : judged (0x21 ∷ 0x89 ∷ 0x80 ∷ 0x80 ∷ 0x80 ∷ []) readyWish ≡ NoFit
+  pub declined : judged (0x21 ∷ 0x80 ∷ 0x80 ∷ 0x80 ∷ 0x81 ∷ 0x02 ∷ 0xd8 ∷ []) readyWish ≡ 3
+  pub accepted : judged (0x21 ∷ 0x89 ∷ 0x80 ∷ 0x80 ∷ 0x81 ∷ 0x02 ∷ 0xd0 ∷ []) readyWish ≡ 0
+  pub not-ready : judged (0x21 ∷ 0x89 ∷ 0x80 ∷ 0x80 ∷ 0x81 ∷ 0x02 ∷ 0xd0 ∷ []) otherWish ≡ 2
+  pub empty : judged (0x21 ∷ 0x89 ∷ 0x80 ∷ 0x80 ∷ 0x80 ∷ []) readyWish ≡ 3
 
 pub positions : Positions
 unfolding setBits blockNumbers blockEnd subCodes subsBehind groupCodes groupBehind parCodes parsBehind restCodes restBehind fieldCodes fieldBehind blockForm subsForm groupForm parsForm restForm fieldForm codesIn isIn allIn hasSpar fullAtEnd tight subsMinimal groupMinimal parsMinimal fieldMinimal rowsUnder rowAt rowOf allStandard goodField wishesIn goodRecords allInside tablesNo firstSuiting choice fitsSome fitsReady verdict
@@ -93,13 +90,13 @@ positions =
       behind = refl;
       no-spar = refl;
       outside = refl;
-      chosen = refl;
+      first = refl;
       second = refl;
       unready = refl;
       not-own = refl;
       not-far = refl;
       unlisted = refl;
-      refused = refl;
+      declined = refl;
       accepted = refl;
       not-ready = refl;
       empty = refl;

@@ -15,10 +15,8 @@ use Rattle.names.specs.Named.{namedCode}
 use Rattle.names.proofs.Sieving.{in-only}
 use Rattle.choice.specs.Wishes.{Wish, mostWishes, wishesIn, wishesOf, standardCodes, wishCodes, goodWish, goodWishes}
 use Rattle.choice.specs.Tables.{tablesNo}
-use Rattle.choice.specs.Choosing.{Far, unheard, heard, suits, firstSuiting, choice}
+use Rattle.choice.specs.Choosing.{Far, unheard, heard, suits, Choosing, chosen, refused, firstSuiting, choice, First}
 use Rattle.choice.specs.Inner.{wishAt, Enters}
-use Rattle.choice.specs.declared.Choice.{Choice}
-use Rattle.choice.specs.declared.Choice.the-variants.{Chosen, NoChoice}
 use Rattle.choice.specs.declared.Entry.{Entry}
 use Rattle.choice.specs.declared.Entry.the-variants.{Record, Over}
 use Rattle.choice.specs.declared.Pick.{Pick}
@@ -29,28 +27,15 @@ use Rattle.choice.proofs.Tabled.{good-fields, wish-named, tables-good}
 
 -- ---- the first that suits
 
--- a wish that was chosen: none before it suits and it does; its number counts from 1, and its field lies in the run where the choice says
-pub record First (own : List ℕ) (far : Far) (run : List ℕ) (p : Pick) : Type 0 where
-  pub before : List Wish
-  pub wish : Wish
-  pub behind : List Wish
-  pub wishes : wishesOf run ≡ before ++ (wish ∷ behind)
-  pub none : (w : Wish) → List·Memᴰ w before → suits own far w ≡ false
-  pub suited : suits own far wish ≡ true
-  pub number : p .number ≡ length before + 1
-  pub few : p .number ≤ mostWishes
-  pub field : take (p .length) (drop (p .at) run) ≡ wish .field
-  pub inside : p .at + p .length ≤ length run
-
 -- what was chosen; of no choice, nothing
-abbrev picked : Choice → Pick
-picked (Chosen p) = p
-picked NoChoice = record { number = 0; at = 0; length = 0 }
+abbrev picked : Choosing → Pick
+picked (chosen p) = p
+picked (refused n) = record { number = 0; at = 0; length = 0 }
 
 -- a choice is none or one
-abbrev many : Choice → ℕ
-many (Chosen p) = 1
-many NoChoice = 0
+abbrev many : Choosing → ℕ
+many (chosen p) = 1
+many (refused n) = 0
 
 -- the choice is among the wishes from a place on, k of them at most, and none before them suits
 record Ahead (own : List ℕ) (far : Far) (run : List ℕ) (p : Pick) (k at : ℕ) (before : List Wish) : Type 0 where
@@ -58,23 +43,23 @@ record Ahead (own : List ℕ) (far : Far) (run : List ℕ) (p : Pick) (k at : �
   count : length before + k ≡ mostWishes
   wishes : wishesOf run ≡ before ++ wishesIn k (drop at run)
   none : (w : Wish) → List·Memᴰ w before → suits own far w ≡ false
-  told : firstSuiting own far (wishesIn k (drop at run)) (length before) at ≡ Chosen p
+  told : firstSuiting own far (wishesIn k (drop at run)) (length before) at ≡ chosen p
 
 module _ (own : List ℕ) (far : Far) (run : List ℕ) (p : Pick) (k at : ℕ) (before : List Wish) (a : Ahead own far run p (suc k) at before) where
   module _ (x : Slot) (e : Enters run at (Record x)) where
     -- the record there is chosen, or the choice is among those behind it
-    at-record : pick (suits own far (wishAt run x)) (Chosen (record { number = length before + 1; at = x .start; length = x .end - x .start }))
+    at-record : pick (suits own far (wishAt run x)) (chosen (record { number = length before + 1; at = x .start; length = x .end - x .start }))
         (firstSuiting own far (wishesIn k (drop (x .end) run)) (length before + 1) (x .end))
-        ≡ Chosen p
+        ≡ chosen p
     at-record = sym (choice-step own far run at (length before) x e (wishesIn k (drop (x .end) run))) ∙ (rw (e .0 k) at (a .told))
 
     -- where it suits, it is the first
     here : suits own far (wishAt run x) ≡ true → First own far run p
     here s =
         let q = rw s at at-record in
-        let n : p .number ≡ length before + 1 = sym (ap (λ (c : Choice). picked c .number) q) in
-        let i : p .at ≡ x .start = sym (ap (λ (c : Choice). picked c .at) q) in
-        let l : p .length ≡ x .end - x .start = sym (ap (λ (c : Choice). picked c .length) q) in
+        let n : p .number ≡ length before + 1 = sym (ap (λ (c : Choosing). picked c .number) q) in
+        let i : p .at ≡ x .start = sym (ap (λ (c : Choosing). picked c .at) q) in
+        let l : p .length ≡ x .end - x .start = sym (ap (λ (c : Choosing). picked c .length) q) in
         record {
           before = before;
           wish = wishAt run x;
@@ -119,7 +104,7 @@ first-from own far run p zero at before a = absurd (omega (arith, ap many (a .to
 first-from own far run p (suc k) at before a = first-step own far run p k at before a (λ i b d. first-from own far run p k i b d)
 
 -- what is chosen is the first wish that suits
-pub chosen-first : (own : List ℕ) (far : Far) (run : List ℕ) (p : Pick) → choice own far run ≡ Chosen p → First own far run p
+pub chosen-first : (own : List ℕ) (far : Far) (run : List ℕ) (p : Pick) → choice own far run ≡ chosen p → First own far run p
 unfolding choice
 chosen-first own far run p e =
     first-from own far run p mostWishes 0 []
@@ -135,14 +120,14 @@ first-is-ready own unheard run p f = f .suited
 first-is-ready own (heard far) run p f = both-parts (f .wish .ready) _ (f .suited) .0
 
 -- with a far list, what is chosen lies in the own table and in that list
-pub chosen-common : (own far run : List ℕ) (p : Pick) → choice own (heard far) run ≡ Chosen p
+pub chosen-common : (own far run : List ℕ) (p : Pick) → choice own (heard far) run ≡ chosen p
     → let codes = standardCodes (take (p .length) (drop (p .at) run)) in (allIn codes own ≡ true) × (allIn codes far ≡ true)
 chosen-common own far run p e =
     let f = chosen-first own (heard far) run p e in
     rw (f .field) (both-parts (allIn (wishCodes (f .wish)) own) (allIn (wishCodes (f .wish)) far) (both-parts (f .wish .ready) _ (f .suited) .1))
 
 -- and from good tables, far list or none, it is a good field with an SPar(1) that lies in the own table
-pub chosen-good : (own run : List ℕ) (far : Far) (p : Pick) → tablesNo own run ≡ 0 → choice (standardCodes own) far run ≡ Chosen p
+pub chosen-good : (own run : List ℕ) (far : Far) (p : Pick) → tablesNo own run ≡ 0 → choice (standardCodes own) far run ≡ chosen p
     → let field = take (p .length) (drop (p .at) run) in (goodWish field ≡ true) × (allIn (standardCodes field) (standardCodes own) ≡ true)
 chosen-good own run far p n e =
     let f = chosen-first (standardCodes own) far run p e in
@@ -150,21 +135,21 @@ chosen-good own run far p n e =
     rw (f .field) (good-fields mostWishes run (g .wishes) (f .wish) (first-member f), g .inside (f .wish) (first-member f))
 
 -- of wishes of which none is chosen, none suits
-none-suits : (own : List ℕ) (far : Far) (ws : List Wish) (n at : ℕ) → firstSuiting own far ws n at ≡ NoChoice → (w : Wish) → List·Memᴰ w ws → suits own far w ≡ false
+none-suits : (own : List ℕ) (far : Far) (ws : List Wish) (n at : ℕ) → firstSuiting own far ws n at ≡ refused 11 → (w : Wish) → List·Memᴰ w ws → suits own far w ≡ false
 unfolding firstSuiting
 none-suits own far [] n at e w m = absurd (List·Memᴰ·not-nil m)
 none-suits own far (v ∷ ws) n at e w m =
     go (suits own far v) refl e (none-suits own far ws (n + 1) (at + 2 + length (v .field)))
   where
     go : (t : Bool) → suits own far v ≡ t
-        → pick t (Chosen (record { number = n + 1; at = at + 2; length = length (v .field) })) (firstSuiting own far ws (n + 1) (at + 2 + length (v .field))) ≡ NoChoice
-        → (firstSuiting own far ws (n + 1) (at + 2 + length (v .field)) ≡ NoChoice → (u : Wish) → List·Memᴰ u ws → suits own far u ≡ false)
+        → pick t (chosen (record { number = n + 1; at = at + 2; length = length (v .field) })) (firstSuiting own far ws (n + 1) (at + 2 + length (v .field))) ≡ refused 11
+        → (firstSuiting own far ws (n + 1) (at + 2 + length (v .field)) ≡ refused 11 → (u : Wish) → List·Memᴰ u ws → suits own far u ≡ false)
         → suits own far w ≡ false
     go true s q others = absurd (omega (arith, ap many q))
     go false s q others = ⊎-elim (λ d. rw d s) (others q w) (List·Memᴰ·cases-cons m)
 
 -- and of wishes of which none suits, none is chosen
-suits-none : (own : List ℕ) (far : Far) (ws : List Wish) (n at : ℕ) → ((w : Wish) → List·Memᴰ w ws → suits own far w ≡ false) → firstSuiting own far ws n at ≡ NoChoice
+suits-none : (own : List ℕ) (far : Far) (ws : List Wish) (n at : ℕ) → ((w : Wish) → List·Memᴰ w ws → suits own far w ≡ false) → firstSuiting own far ws n at ≡ refused 11
 unfolding firstSuiting
 suits-none own far [] n at h = refl
 suits-none own far (v ∷ ws) n at h =
@@ -172,8 +157,8 @@ suits-none own far (v ∷ ws) n at h =
 
 -- there is no choice exactly if no wish suits
 pub no-choice : (own : List ℕ) (far : Far) (run : List ℕ)
-    → (choice own far run ≡ NoChoice → (w : Wish) → List·Memᴰ w (wishesOf run) → suits own far w ≡ false)
-    × (((w : Wish) → List·Memᴰ w (wishesOf run) → suits own far w ≡ false) → choice own far run ≡ NoChoice)
+    → (choice own far run ≡ refused 11 → (w : Wish) → List·Memᴰ w (wishesOf run) → suits own far w ≡ false)
+    × (((w : Wish) → List·Memᴰ w (wishesOf run) → suits own far w ≡ false) → choice own far run ≡ refused 11)
 unfolding choice
 no-choice own far run = (none-suits own far (wishesOf run) 0 0, suits-none own far (wishesOf run) 0 0)
 

@@ -13,8 +13,7 @@ use Rattle.tree.proofs.Modes.{spar-in, spar-some}
 use Rattle.writer.specs.Minimal.{both}
 use Rattle.names.specs.Named.{namedCode}
 use Rattle.choice.specs.Wishes.{Wish, wishesOf, wishCodes, goodWishes}
-use Rattle.choice.specs.Judging.{fits, fitsSome, fitsReady, verdict, nakOf}
-use Rattle.choice.specs.declared.Verdict.the-variants.{Accepted, NotReady, NoFit}
+use Rattle.choice.specs.Judging.{fits, fitsSome, fitsReady, verdict, Fitting}
 use Rattle.choice.proofs.Truths.{never, not-so, same-tests, both-parts, both-not, not-both}
 use Rattle.choice.proofs.Tabled.{wish-named}
 
@@ -84,27 +83,20 @@ some-same f g (v ∷ ws) h = rw (h v, some-same f g ws h)
 -- ---- the three verdicts
 
 -- each verdict tells what was found: whether the mode fits a ready wish, and whether it fits any
-only-accepted : (a b : Bool) → pick a Accepted (pick b NotReady NoFit) ≡ Accepted → a ≡ true
+only-accepted : (a b : Bool) → _≡_ {A = ℕ} (pick a 0 (pick b 2 3)) 0 → a ≡ true
 only-accepted true b e = refl
-only-accepted false true e = absurd (omega (arith, ap nakOf e))
-only-accepted false false e = absurd (omega (arith, ap nakOf e))
+only-accepted false true e = absurd (omega arith)
+only-accepted false false e = absurd (omega arith)
 
-only-not-ready : (a b : Bool) → pick a Accepted (pick b NotReady NoFit) ≡ NotReady → (a ≡ false) × (b ≡ true)
-only-not-ready true b e = absurd (omega (arith, ap nakOf e))
+only-not-ready : (a b : Bool) → _≡_ {A = ℕ} (pick a 0 (pick b 2 3)) 2 → (a ≡ false) × (b ≡ true)
+only-not-ready true b e = absurd (omega arith)
 only-not-ready false true e = (refl, refl)
-only-not-ready false false e = absurd (omega (arith, ap nakOf e))
+only-not-ready false false e = absurd (omega arith)
 
-only-no-fit : (a b : Bool) → pick a Accepted (pick b NotReady NoFit) ≡ NoFit → b ≡ false
-only-no-fit true b e = absurd (omega (arith, ap nakOf e))
-only-no-fit false true e = absurd (omega (arith, ap nakOf e))
+only-no-fit : (a b : Bool) → _≡_ {A = ℕ} (pick a 0 (pick b 2 3)) 3 → b ≡ false
+only-no-fit true b e = absurd (omega arith)
+only-no-fit false true e = absurd (omega arith)
 only-no-fit false false e = refl
-
--- a mode fits one of the wishes: it has an SPar(1), and all its codes lie there
-pub record Fitting (mode : List ℕ) (ws : List Wish) : Type 0 where
-  pub wish : Wish
-  pub member : List·Memᴰ wish ws
-  pub spar : hasSpar mode ≡ true
-  pub lies : allIn mode (wishCodes wish) ≡ true
 
 module _ (mode : List ℕ) (ws : List Wish) where
   -- it does where a wish's test tells so
@@ -117,23 +109,23 @@ module _ (mode : List ℕ) (ws : List Wish) where
   fits-there f = rw (f .spar) (f .lies)
 
   -- the verdict, by what is found
-  told : verdict mode ws ≡ pick (someWish (fitsIfReady mode) ws) Accepted (pick (someWish (fits mode) ws) NotReady NoFit)
+  told : verdict mode ws ≡ pick (someWish (fitsIfReady mode) ws) 0 (pick (someWish (fits mode) ws) 2 3)
   unfolding verdict
   told = rw (fits-ready mode ws, fits-some mode ws)
 
   -- a mode that is accepted has an SPar(1) and lies in a ready wish
-  pub accepted : verdict mode ws ≡ Accepted → (f : Fitting mode ws) × (f .wish .ready ≡ true)
+  pub accepted : verdict mode ws ≡ 0 → (f : Fitting mode ws) × (f .wish .ready ≡ true)
   accepted e =
       let o = some-one (fitsIfReady mode) ws (only-accepted (someWish (fitsIfReady mode) ws) (someWish (fits mode) ws) (sym told ∙ e)) in
       let b = both-parts (o .0 .ready) (fits mode (o .0)) (o .2) in
       (fitting (o .0) (o .1) (b .1), b .0)
 
   -- and one that does is accepted
-  pub accepts : (f : Fitting mode ws) → f .wish .ready ≡ true → verdict mode ws ≡ Accepted
+  pub accepts : (f : Fitting mode ws) → f .wish .ready ≡ true → verdict mode ws ≡ 0
   accepts f r = told ∙ rw (one-some (fitsIfReady mode) ws (f .wish) (f .member) (rw r (fits-there f)))
 
   -- a mode that is told not ready has an SPar(1) and lies in a wish, and in none that is ready
-  pub not-ready : verdict mode ws ≡ NotReady → Fitting mode ws × ((f : Fitting mode ws) → f .wish .ready ≡ false)
+  pub not-ready : verdict mode ws ≡ 2 → Fitting mode ws × ((f : Fitting mode ws) → f .wish .ready ≡ false)
   not-ready e =
       let t = only-not-ready (someWish (fitsIfReady mode) ws) (someWish (fits mode) ws) (sym told ∙ e) in
       let o = some-one (fits mode) ws (t .1) in (
@@ -142,7 +134,7 @@ module _ (mode : List ℕ) (ws : List Wish) where
       )
 
   -- and one that does is told so
-  pub not-readies : Fitting mode ws → ((f : Fitting mode ws) → f .wish .ready ≡ false) → verdict mode ws ≡ NotReady
+  pub not-readies : Fitting mode ws → ((f : Fitting mode ws) → f .wish .ready ≡ false) → verdict mode ws ≡ 2
   not-readies f h =
       told
       ∙ rw (
@@ -151,11 +143,11 @@ module _ (mode : List ℕ) (ws : List Wish) where
       )
 
   -- a mode that is told to fit no wish has no SPar(1), or lies in none
-  pub no-fit : verdict mode ws ≡ NoFit → Fitting mode ws → ⊥
+  pub no-fit : verdict mode ws ≡ 3 → Fitting mode ws → ⊥
   no-fit e f = never (sym (only-no-fit (someWish (fitsIfReady mode) ws) (someWish (fits mode) ws) (sym told ∙ e)) ∙ one-some (fits mode) ws (f .wish) (f .member) (fits-there f))
 
   -- and one of which that holds is told so
-  pub no-fits : (Fitting mode ws → ⊥) → verdict mode ws ≡ NoFit
+  pub no-fits : (Fitting mode ws → ⊥) → verdict mode ws ≡ 3
   no-fits h =
       told
       ∙ rw (
@@ -166,21 +158,21 @@ module _ (mode : List ℕ) (ws : List Wish) where
 -- ---- modes that fit no wish
 
 -- one without an SPar(1)
-pub no-spar : (mode : List ℕ) (ws : List Wish) → hasSpar mode ≡ false → verdict mode ws ≡ NoFit
+pub no-spar : (mode : List ℕ) (ws : List Wish) → hasSpar mode ≡ false → verdict mode ws ≡ 3
 no-spar mode ws h = no-fits mode ws (λ f. never (sym h ∙ f .spar))
 
 -- so an empty one
-pub empty-mode : (ws : List Wish) → verdict [] ws ≡ NoFit
+pub empty-mode : (ws : List Wish) → verdict [] ws ≡ 3
 unfolding hasSpar
 empty-mode ws = no-spar [] ws refl
 
 -- one with a code that no wish has
-pub strange-code : (x : ℕ) (mode : List ℕ) (ws : List Wish) → isIn x mode ≡ true → ((w : Wish) → List·Memᴰ w ws → isIn x (wishCodes w) ≡ false) → verdict mode ws ≡ NoFit
+pub strange-code : (x : ℕ) (mode : List ℕ) (ws : List Wish) → isIn x mode ≡ true → ((w : Wish) → List·Memᴰ w ws → isIn x (wishCodes w) ≡ false) → verdict mode ws ≡ 3
 strange-code x mode ws i h =
     no-fits mode ws (λ f. never (sym (h (f .wish) (f .member)) ∙ allIn-isIn x mode (wishCodes (f .wish)) (f .lies) i))
 
 -- so one with a code that is not named, where the wishes are good
-pub unnamed-code : (x : ℕ) (mode run : List ℕ) → goodWishes run ≡ true → isIn x mode ≡ true → namedCode x ≡ false → verdict mode (wishesOf run) ≡ NoFit
+pub unnamed-code : (x : ℕ) (mode run : List ℕ) → goodWishes run ≡ true → isIn x mode ≡ true → namedCode x ≡ false → verdict mode (wishesOf run) ≡ 3
 unnamed-code x mode run g i u =
     strange-code x mode (wishesOf run) i (λ w m. not-so (isIn x (wishCodes w)) (λ e. never (sym u ∙ wish-named run g w m x e)))
 

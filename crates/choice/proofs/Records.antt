@@ -13,10 +13,9 @@ use Rattle.octets.specs.Places.{pick}
 use Rattle.tree.specs.Fields.{allIn, hasSpar}
 use Rattle.writer.specs.Minimal.{both}
 use Rattle.choice.specs.Wishes.{Wish, mostWishes, wishesIn, wishesOf, wishCodes, goodWish, goodRecords, goodWishes}
-use Rattle.choice.specs.Choosing.{Far, suits, firstSuiting}
+use Rattle.choice.specs.Choosing.{Far, suits, chosen, firstSuiting}
 use Rattle.choice.specs.Judging.{fitsSome, fitsReady}
 use Rattle.choice.specs.Inner.{wishAt, wish, Enters, EndsGood, fitsTold}
-use Rattle.choice.specs.declared.Choice.the-variants.{Chosen}
 use Rattle.choice.specs.declared.Entry.{Entry}
 use Rattle.choice.specs.declared.Entry.the-variants.{Record, Over}
 use Rattle.choice.specs.declared.Slot.{Slot}
@@ -215,7 +214,7 @@ module _ {A : Type 0} (run : List ℕ) (left at : ℕ) (F : List Wish → A) (an
 -- the choice: this wish, or the first of the others
 pub choice-step : (own : List ℕ) (far : Far) (run : List ℕ) (at n : ℕ) (x : Slot) → Enters run at (Record x) → (ws : List Wish)
     → firstSuiting own far (wishAt run x ∷ ws) n at
-    ≡ pick (suits own far (wishAt run x)) (Chosen (record { number = n + 1; at = x .start; length = x .end - x .start })) (firstSuiting own far ws (n + 1) (x .end))
+    ≡ pick (suits own far (wishAt run x)) (chosen (record { number = n + 1; at = x .start; length = x .end - x .start })) (firstSuiting own far ws (n + 1) (x .end))
 unfolding firstSuiting
 choice-step own far run at n x e ws =
     let f : length (take (x .end - x .start) (drop (x .start) run)) ≡ x .end - x .start =

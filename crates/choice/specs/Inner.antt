@@ -1,4 +1,4 @@
--- The records of the wishes at a place of their run, and small words of the inner functions. Inner: no public contract cites it.
+-- Inner: the records of the wishes at a place of their run, and small words of the inner functions.
 -- Assumes nothing.
 use Prim.Native.Nat.{ℕ, zero, suc, _+_, _-_, _≤_}
 use mathlib.Core.Bool.{Bool, false}

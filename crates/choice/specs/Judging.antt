@@ -1,9 +1,11 @@
--- The verdict on a mode select that was received (document 01, "Own table, wishes, choice"): it fits a wish if it has an SPar(1) and all
--- its standard parameters lie there. It is accepted if it fits a ready wish; NAK(2) if it fits only wishes not ready; else NAK(3).
+-- To be believed: the verdict on a mode select that was received (document 01, "Own table, wishes, choice"). It fits a wish if it has an
+-- SPar(1) and all its standard parameters lie there. It is accepted if it fits a ready wish; NAK(2) if it fits only wishes not ready; else
+-- NAK(3).
 -- Assumes nothing.
 use Prim.Native.Nat.{ℕ}
 use mathlib.Core.Bool.{Bool, true, false}
-use mathlib.Core.List.{List, [], _∷_}
+use mathlib.Core.List.{List, [], _∷_, List·Memᴰ}
+use mathlib.Core.Path.{_≡_}
 use Rattle.octets.specs.Places.{pick}
 use Rattle.tree.specs.Fields.{allIn, hasSpar}
 use Rattle.writer.specs.Minimal.{both}
@@ -24,11 +26,19 @@ unfoldable pub fitsReady : List ℕ → List Wish → Bool
 fitsReady mode [] = false
 fitsReady mode (w ∷ ws) = pick (both (w .ready) (fits mode w)) true (fitsReady mode ws)
 
-unfoldable pub verdict : List ℕ → List Wish → Verdict
-verdict mode ws = pick (fitsReady mode ws) Accepted (pick (fitsSome mode ws) NotReady NoFit)
+-- the NAK that the mode is declined with, 0 where it is accepted
+unfoldable pub verdict : List ℕ → List Wish → ℕ
+verdict mode ws = pick (fitsReady mode ws) 0 (pick (fitsSome mode ws) 2 3)
 
--- what each verdict is answered with: nothing or ACK(1), NAK(2), NAK(3)
+-- what each answer stands for: accepted, NAK(2), NAK(3)
 abbrev pub nakOf : Verdict → ℕ
 nakOf Accepted = 0
 nakOf NotReady = 2
 nakOf NoFit = 3
+
+-- a mode fits one of the wishes: it has an SPar(1), and all its codes lie there
+pub record Fitting (mode : List ℕ) (ws : List Wish) : Type 0 where
+  pub wish : Wish
+  pub member : List·Memᴰ wish ws
+  pub spar : hasSpar mode ≡ true
+  pub lies : allIn mode (wishCodes wish) ≡ true

@@ -2,16 +2,15 @@
 // front; nothing of it is held.
 ghost use mathlib.Core.Path.{_≡_};
 ghost use mathlib.Core.Bool.{true};
-ghost use mathlib.Core.List.{[]};
 ghost use Prim.Native.Nat.{_≤_, _<_};
 ghost use lib.ListN.{length};
 ghost use Rattle.octets.specs.Places.{pick};
 ghost use Rattle.tree.specs.Fields.{allIn, codesIn, hasSpar};
 ghost use Rattle.writer.specs.Minimal.{both};
 ghost use Rattle.choice.specs.Wishes.{wishesOf, goodWish, goodWishes, standardCodes};
-ghost use Rattle.choice.specs.Tables.{allInside, tablesNo, tablesTold};
-ghost use Rattle.choice.specs.Choosing.{unheard, common, suits, choice, farCodes};
-ghost use Rattle.choice.specs.Judging.{verdict};
+ghost use Rattle.choice.specs.Tables.{allInside};
+ghost use Rattle.choice.specs.Choosing.{common, suits, choice, choiceTold};
+ghost use Rattle.choice.specs.Contracts.{ChecksTables, ChoosesReady, ChoosesCommon, JudgesMode};
 ghost use Rattle.choice.specs.Inner.{Enters, EndsGood, farTold, wish, fitsTold};
 use good::is_good;
 use tree::Field;
@@ -160,7 +159,7 @@ fn are_inside(own: &[u8], run: &[u8]) -> bool
 
 // The own table and the wishes: refusals 2, 3 and 4.
 pub fn check_tables(own: &[u8], run: &[u8]) -> Tables
-    ensures { λ r. ⌜ tablesTold r ≡ tablesNo (now (own .entry)) (now (run .entry)) ⌝ }
+    ensures { λ r. ⌜ ChecksTables (now (own .entry)) (now (run .entry)) r ⌝ }
 {
     if !is_good(own) {
         return Tables::BadOwn;
@@ -199,7 +198,7 @@ fn may_propose(own: &[u8], ready: bool, field: &[u8], known: bool, far: &[u8], p
 
 // The first wish that may be proposed.
 fn choose(own: &[u8], run: &[u8], known: bool, far: &[u8], place: usize) -> Choice
-    ensures { λ r. ⌜ r ≡ choice (standardCodes (now (own .entry))) (farTold known (now (far .entry)) place) (now (run .entry)) ⌝ }
+    ensures { λ r. ⌜ choiceTold r ≡ choice (standardCodes (now (own .entry))) (farTold known (now (far .entry)) place) (now (run .entry)) ⌝ }
 {
     let mut number = 0usize;
     let mut at = 0usize;
@@ -228,7 +227,7 @@ fn choose(own: &[u8], run: &[u8], known: bool, far: &[u8], place: usize) -> Choi
 
 // The first ready wish: the choice where no far list was heard.
 pub fn first_ready(run: &[u8]) -> Choice
-    ensures { λ r. ⌜ r ≡ choice [] unheard (now (run .entry)) ⌝ }
+    ensures { λ r. ⌜ ChoosesReady (now (run .entry)) r ⌝ }
 {
     // with no far list, neither the own table nor the far octets are looked at
     choose(run, run, false, run, 0)
@@ -236,7 +235,7 @@ pub fn first_ready(run: &[u8]) -> Choice
 
 // The first ready wish that is common to the own table and a far list, whose standard field begins at a place of its octets.
 pub fn first_common(own: &[u8], run: &[u8], far: &[u8], place: usize) -> Choice
-    ensures { λ r. ⌜ r ≡ choice (standardCodes (now (own .entry))) (farCodes (now (far .entry)) place) (now (run .entry)) ⌝ }
+    ensures { λ r. ⌜ ChoosesCommon (now (own .entry)) (now (run .entry)) (now (far .entry)) place r ⌝ }
 {
     choose(own, run, true, far, place)
 }
@@ -281,7 +280,7 @@ fn fits_some(run: &[u8], s: &[u8], place: usize, anyway: bool) -> bool
 
 // The verdict on the standard field at a place of a mode select.
 pub fn judge_mode(run: &[u8], s: &[u8], place: usize) -> Verdict
-    ensures { λ r. ⌜ r ≡ verdict (codesIn Field.Standard (now (s .entry)) place) (wishesOf (now (run .entry))) ⌝ }
+    ensures { λ r. ⌜ JudgesMode (now (run .entry)) (now (s .entry)) place r ⌝ }
 {
     if !has_spar(s, place) {
         return Verdict::NoFit;

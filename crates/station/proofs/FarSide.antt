@@ -29,12 +29,8 @@ use Rattle.writer.proofs.Reading.{treeAt, tree-codes, tree-good}
 use Rattle.names.specs.declared.Keep.{Keep}
 use Rattle.strike.specs.Rewriting.{kept, rewritten, Rewrites}
 use Rattle.choice.specs.Wishes.{wishesOf, standardCodes, goodWishes}
-use Rattle.choice.specs.Choosing.{Far, heard, choice, farCodes}
+use Rattle.choice.specs.Choosing.{heard, Choosing, chosen, refused, choice, farCodes}
 use Rattle.choice.specs.Judging.{verdict}
-use Rattle.choice.specs.declared.Choice.{Choice}
-use Rattle.choice.specs.declared.Choice.the-variants.{Chosen, NoChoice}
-use Rattle.choice.specs.declared.Verdict.{Verdict}
-use Rattle.choice.specs.declared.Verdict.the-variants.{Accepted}
 use Rattle.choice.proofs.Truths.{same-tests}
 use Rattle.choice.proofs.Chosen.{choice-struck}
 use Rattle.table.specs.declared.Phase.{Phase}
@@ -43,12 +39,12 @@ use Rattle.table.specs.declared.After.{After}
 use Rattle.table.specs.declared.After.the-variants.{ThenMs, ThenClMs, ThenCl, ThenHalf}
 use Rattle.table.specs.declared.Settings.{Settings}
 use Rattle.station.specs.Sending.{sentList}
-use Rattle.station.specs.Acting.{Outcome, sends, farList, farOffer, asksAck, storedList, storedMode, proposes, proposesBehind, takes, judges, Standing}
-use Rattle.station.specs.Stepping.{Did, Says, SaysAny}
+use Rattle.station.specs.Acting.{Outcome, sends, farList, farOffer, asksAck, storedList, storedMode, proposes, proposesBehind, takes, judges}
+use Rattle.station.specs.Stepping.{stepTold, Did}
+use Rattle.station.specs.Inner.{Standing, Says, SaysAny}
 use Rattle.station.specs.declared.FarOffer.{FarOffer}
 use Rattle.station.specs.declared.Sends.the-variants.{NoSignal}
 use Rattle.station.specs.declared.Stepped.{Stepped}
-use Rattle.station.specs.declared.Told.the-variants.{Done}
 
 -- ---- what a message with fields says
 
@@ -106,7 +102,7 @@ did-of-any o xs p q l s a = did-of-says (rw q s) (rw p at (a xs (sym l)))
 
 -- an answer that sends nothing leaves the output
 pub says-silent : {n : ℕ} {next : Phase} {out : List ℕ} {r : Stepped}
-    → r ≡ record { told = Done; signal = NoSignal; first = 0; second = 0; stored = n; state = record { phase = next } }
+    → stepTold r ≡ record { no = 0; signal = NoSignal; first = 0; second = 0; stored = n; next = next }
     → SaysAny (λ xs. sends [] [] xs next) n out r out
 says-silent {n} {next} {out} e xs l = record { reply = e ∙ rw l; output = sym (put-nil out) }
 
@@ -117,14 +113,14 @@ module _ (set : Settings) (own run m : List ℕ) (time : ℕ) where
   pub takes-stores : (after : After) → takes after set own run m time .stored ≡ storedList m
   takes-stores ThenMs = go (choice (standardCodes own) (heard (farList m)) run)
     where
-      go : (x : Choice) → proposes x set (farOffer m) run (storedList m) time .stored ≡ storedList m
-      go (Chosen p) = refl
-      go NoChoice = refl
+      go : (x : Choosing) → proposes x set (farOffer m) run (storedList m) time .stored ≡ storedList m
+      go (chosen p) = refl
+      go (refused n) = refl
   takes-stores ThenClMs = go (choice (standardCodes own) (heard (farList m)) run)
     where
-      go : (x : Choice) → proposesBehind (sentList 2 set own) x set (farOffer m) run (storedList m) time .stored ≡ storedList m
-      go (Chosen p) = refl
-      go NoChoice = refl
+      go : (x : Choosing) → proposesBehind (sentList 2 set own) x set (farOffer m) run (storedList m) time .stored ≡ storedList m
+      go (chosen p) = refl
+      go (refused n) = refl
   takes-stores ThenCl = refl
   takes-stores ThenHalf = refl
 
@@ -135,7 +131,7 @@ module _ (set : Settings) (own run m : List ℕ) (time : ℕ) where
   pub takes-half : {after : After} → after ≡ ThenHalf → sends [] [] (storedList m) (Half time) ≡ takes after set own run m time
   takes-half a = rw a
 
-  module _ {after : After} {at : ℕ} {found : Choice} {far : FarOffer} (p : at ≡ standardAt m) (g : goodWishes run ≡ true)
+  module _ {after : After} {at : ℕ} {found : Choosing} {far : FarOffer} (p : at ≡ standardAt m) (g : goodWishes run ≡ true)
       (e : found ≡ choice (standardCodes own) (farCodes m at) run) (o : far ≡ farOffer m) where
     pub takes-ms : after ≡ ThenMs → proposes found set far run (storedList m) time ≡ takes after set own run m time
     takes-ms a = rw (a, e, o, p, choice-as-heard (standardCodes own) m run g)
@@ -146,14 +142,14 @@ module _ (set : Settings) (own run m : List ℕ) (time : ℕ) where
 -- ---- an MS that was judged
 
 -- the verdict on the field at its place
-pub verdict-there : (m run : List ℕ) {at : ℕ} {v x : Verdict} → at ≡ standardAt m → v ≡ verdict (codesIn Standard m at) (wishesOf run) → v ≡ x
+pub verdict-there : (m run : List ℕ) {at : ℕ} {v x : ℕ} → at ≡ standardAt m → v ≡ verdict (codesIn Standard m at) (wishesOf run) → v ≡ x
     → verdict (codesIn Standard m (standardAt m)) (wishesOf run) ≡ x
 verdict-there m run p e q = rw (sym p, sym e) q
 
 -- accepted, it gives ACK(1) if it asks for that, else nothing
-pub accepts-asked : (m : List ℕ) (time : ℕ) → asksAck m ≡ true → sends (36 ∷ []) [] (storedMode m) (Mode time 0 true) ≡ judges Accepted m time
+pub accepts-asked : (m : List ℕ) (time : ℕ) → asksAck m ≡ true → sends (36 ∷ []) [] (storedMode m) (Mode time 0 true) ≡ judges 0 m time
 unfolding messageOctets
 accepts-asked m time a = rw a
 
-pub accepts-unasked : (m : List ℕ) (time : ℕ) → asksAck m ≡ false → sends [] [] (storedMode m) (Mode time 0 false) ≡ judges Accepted m time
+pub accepts-unasked : (m : List ℕ) (time : ℕ) → asksAck m ≡ false → sends [] [] (storedMode m) (Mode time 0 false) ≡ judges 0 m time
 accepts-unasked m time a = rw a

@@ -19,22 +19,21 @@ use Rattle.station.specs.Sorting.{sortOf}
 use Rattle.station.specs.Acting.{Outcome, quiet}
 use Rattle.station.specs.Stepping.{outputRoom, storeRoom, isMode, isLate, sorted, timed, checked}
 use Rattle.station.specs.declared.Event.{Event}
-use Rattle.station.specs.declared.Told.the-variants as told
 
 -- ---- the time, and Mode
 
 module _ (p : Phase) (set : Settings) (own run : List ℕ) (event : Event) (m : List ℕ) (time : ℕ) where
-  pub time-before : time < entryOf p → timed p set own run event m time ≡ quiet told.TimeBefore p
+  pub time-before : time < entryOf p → timed p set own run event m time ≡ quiet 5 p
   unfolding timed
   time-before h = rw (lt-ltb time (entryOf p) h)
 
   module _ (h : entryOf p ≤ time) where
-    pub timed-out : isLate (kindOf p) (entryOf p) time ≡ true → timed p set own run event m time ≡ quiet told.TimedOut (Initial time)
+    pub timed-out : isLate (kindOf p) (entryOf p) time ≡ true → timed p set own run event m time ≡ quiet 6 (Initial time)
     unfolding timed
     timed-out l = rw (le-ltb time (entryOf p) h, l)
 
     module _ (l : isLate (kindOf p) (entryOf p) time ≡ false) where
-      pub in-mode : isMode (kindOf p) ≡ true → timed p set own run event m time ≡ quiet told.NotInTable p
+      pub in-mode : isMode (kindOf p) ≡ true → timed p set own run event m time ≡ quiet 10 p
       unfolding timed
       in-mode o = rw (le-ltb time (entryOf p) h, l, o)
 
@@ -61,17 +60,17 @@ tables-by own run = go (goodOwn own) (goodWishes run) (allInside own (wishesOf r
 -- what each answer leads to, where good tables lead to o
 abbrev pub tabled : Tables → Phase → Outcome → Outcome
 tabled found.Good p o = o
-tabled found.BadOwn p o = quiet told.BadOwn p
-tabled found.BadWishes p o = quiet told.BadWishes p
-tabled found.Outside p o = quiet told.Outside p
+tabled found.BadOwn p o = quiet 2 p
+tabled found.BadWishes p o = quiet 3 p
+tabled found.Outside p o = quiet 4 p
 
 module _ (p : Phase) (set : Settings) (own run : List ℕ) (event : Event) (m : List ℕ) (time outSize storeSize : ℕ) where
-  pub small-output : outSize < outputRoom → checked p set own run event m time outSize storeSize ≡ quiet told.SmallBuffers p
+  pub small-output : outSize < outputRoom → checked p set own run event m time outSize storeSize ≡ quiet 1 p
   unfolding checked
   small-output h = rw (lt-ltb outSize outputRoom h)
 
   module _ (h : outputRoom ≤ outSize) where
-    pub small-store : storeSize < storeRoom → checked p set own run event m time outSize storeSize ≡ quiet told.SmallBuffers p
+    pub small-store : storeSize < storeRoom → checked p set own run event m time outSize storeSize ≡ quiet 1 p
     unfolding checked
     small-store k = rw (le-ltb outSize outputRoom h, lt-ltb storeSize storeRoom k)
 
@@ -83,7 +82,7 @@ module _ (p : Phase) (set : Settings) (own run : List ℕ) (event : Event) (m : 
         (go (goodOwn own) (goodWishes run) (allInside own (wishesOf run))
         ∙ ap (λ (x : Tables). tabled x p (timed p set own run event m time)) (tables-unique own run (tablesBy (goodOwn own) (goodWishes run) (allInside own (wishesOf run))) t (tables-by own run) e))
       where
-        go : (a b c : Bool) → pick (not a) (quiet told.BadOwn p) (pick (not b) (quiet told.BadWishes p) (pick (not c) (quiet told.Outside p) (timed p set own run event m time)))
+        go : (a b c : Bool) → pick (not a) (quiet 2 p) (pick (not b) (quiet 3 p) (pick (not c) (quiet 4 p) (timed p set own run event m time)))
             ≡ tabled (tablesBy a b c) p (timed p set own run event m time)
         go true true true = refl
         go true true false = refl

@@ -31,9 +31,8 @@ use Rattle.table.specs.declared.OnCrE.the-variants.{AsOnCrD, ByCrD}
 use Rattle.table.specs.declared.OnMrD.{OnMrD}
 use Rattle.table.specs.declared.OnMrD.the-variants.{ByMs, ByLists}
 use Rattle.table.specs.Rows.{onMrE, onMrD, onCrD, onCrE, initialAct, rowAct, toneAct, row, actOf}
-use Rattle.station.specs.Sorting.{startHeard, signalHeard, typeHeard, isMessage}
-use Rattle.station.specs.Acting.{needsField, Standing}
-use Rattle.station.specs.Stepping.{Hears}
+use Rattle.station.specs.Sorting.{startHeard, signalHeard, typeHeard}
+use Rattle.station.specs.Inner.{isMessage, needsField, Standing, Hears}
 use Rattle.station.specs.declared.Start.{Start}
 use Rattle.station.specs.declared.Start.the-variants.{MrEFirst, MrDFirst, CrEFirst, CrDFirst, MsFirst, ClFirst, ClrFirst}
 use Rattle.station.specs.declared.Signal.{Signal}

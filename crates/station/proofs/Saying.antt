@@ -5,35 +5,33 @@ use mathlib.Core.Path.{_≡_, refl, sym, ap, _∙_}
 use Prim.Native.Nat.{ℕ}
 use Rattle.octets.specs.Lay.{put}
 use Rattle.octets.proofs.Laying.{put-nil}
-use Rattle.choice.specs.Choosing.{unheard, choice}
-use Rattle.choice.specs.declared.Choice.{Choice}
-use Rattle.choice.specs.declared.Choice.the-variants.{Chosen, NoChoice}
+use Rattle.choice.specs.Choosing.{unheard, Choosing, chosen, refused, choice}
 use Rattle.choice.proofs.Chosen.{choice-unheard}
 use Rattle.table.specs.declared.Phase.{Phase}
 use Rattle.table.specs.declared.Settings.{Settings}
 use Rattle.station.specs.Sending.{noOffer}
 use Rattle.station.specs.Acting.{Outcome, proposes}
-use Rattle.station.specs.Stepping.{Did, Says}
+use Rattle.station.specs.Stepping.{stepTold, Did}
+use Rattle.station.specs.Inner.{Says}
 use Rattle.station.specs.declared.FarOffer.{FarOffer}
 use Rattle.station.specs.declared.Sends.{Sends}
 use Rattle.station.specs.declared.Stepped.{Stepped}
-use Rattle.station.specs.declared.Told.{Told}
 use Rattle.station.proofs.FarSide.{did-of-says}
 
 -- nothing was sent in a field, and nothing stored
-pub did-bare : (told : Told) (signal : Sends) (next : Phase) (out store : List ℕ) {r : Stepped}
-    → r ≡ record { told = told; signal = signal; first = 0; second = 0; stored = 0; state = record { phase = next } }
-    → Did (record { told = told; signal = signal; first = []; second = []; stored = []; next = next }) out store r out store
-did-bare told signal next out store e = record { reply = e; output = sym (put-nil out); store = sym (put-nil store) }
+pub did-bare : (n : ℕ) (signal : Sends) (next : Phase) (out store : List ℕ) {r : Stepped}
+    → stepTold r ≡ record { no = n; signal = signal; first = 0; second = 0; stored = 0; next = next }
+    → Did (record { told = n; signal = signal; first = []; second = []; stored = []; next = next }) out store r out store
+did-bare n signal next out store e = record { reply = e; output = sym (put-nil out); store = sym (put-nil store) }
 
 -- what was said was done
 pub did-say : {o : Outcome} {out₀ out₁ : List ℕ} {r : Stepped} (store : List ℕ) → o .stored ≡ [] → Says o out₀ r out₁ → Did o out₀ store r out₁ store
 did-say store e s = did-of-says (sym (ap (λ (xs : List ℕ). put xs store) e ∙ put-nil store)) s
 
 -- a proposal stores what it is given to store
-pub proposal-stores : (c : Choice) (set : Settings) (far : FarOffer) (run stored : List ℕ) (time : ℕ) → proposes c set far run stored time .stored ≡ stored
-proposal-stores (Chosen p) set far run stored time = refl
-proposal-stores NoChoice set far run stored time = refl
+pub proposal-stores : (c : Choosing) (set : Settings) (far : FarOffer) (run stored : List ℕ) (time : ℕ) → proposes c set far run stored time .stored ≡ stored
+proposal-stores (chosen p) set far run stored time = refl
+proposal-stores (refused n) set far run stored time = refl
 
 -- with no far list the own table does not matter
 pub did-first : (codes run : List ℕ) (set : Settings) (time : ℕ) {out₀ out₁ : List ℕ} {r : Stepped} (store : List ℕ)

@@ -28,7 +28,7 @@ use Rattle.good.proofs.Parts.{good-parts}
 use Rattle.strike.proofs.Goodness.{good-stays, standard-stay}
 use Rattle.strike.proofs.Bounds.{good-short}
 use Rattle.choice.specs.Wishes.{mostWishes, standardCodes, goodWishes}
-use Rattle.choice.specs.Choosing.{Far, choice}
+use Rattle.choice.specs.Choosing.{Far, choice, choiceTold}
 use Rattle.choice.specs.declared.Choice.{Choice}
 use Rattle.choice.specs.declared.Choice.the-variants.{Chosen, NoChoice}
 use Rattle.choice.specs.declared.Pick.{Pick}
@@ -40,11 +40,11 @@ use Rattle.table.specs.declared.Settings.{Settings}
 use Rattle.station.specs.declared.Offer.{Offer}
 use Rattle.station.specs.declared.FarOffer.{FarOffer}
 use Rattle.station.specs.declared.Stepped.{Stepped}
-use Rattle.station.specs.declared.Told.the-variants.{Done}
 use Rattle.station.specs.declared.Sends.the-variants.{NoSignal}
 use Rattle.station.specs.Sending.{codeIf, offerCodes, sentField, sentAck, sentNak, listOffer, sentList, modeOffer, sentMode}
-use Rattle.station.specs.Acting.{Outcome, sends, Lies}
-use Rattle.station.specs.Stepping.{Says}
+use Rattle.station.specs.Acting.{Outcome, sends}
+use Rattle.station.specs.Stepping.{stepTold}
+use Rattle.station.specs.Inner.{Lies, Says}
 
 -- ---- how it is laid into the output
 
@@ -170,24 +170,24 @@ mode-offered set far eight short some s t e = rw (e, t, both-both (not short) (s
 
 -- an answer with the lengths of what is sent and stored, and the output with what is sent, are those of the outcome
 pub said : (o : Outcome) {out₀ out₁ : List ℕ} {r : Stepped} (first second stored : ℕ)
-    → r ≡ record { told = o .told; signal = o .signal; first = first; second = second; stored = stored; state = record { phase = o .next } }
+    → stepTold r ≡ record { no = o .told; signal = o .signal; first = first; second = second; stored = stored; next = o .next }
     → first ≡ length (o .first) → second ≡ length (o .second) → length (o .stored) ≡ stored → out₁ ≡ put (o .first ++ o .second) out₀ → Says o out₀ r out₁
 said o first second stored e f s t p = record { reply = e ∙ rw (f, s, ← t); output = p }
 
 -- the same where one message is sent
 pub said-one : (sent xs : List ℕ) (next : Phase) {out₀ out₁ : List ℕ} {r : Stepped} (first stored : ℕ)
-    → r ≡ record { told = Done; signal = NoSignal; first = first; second = 0; stored = stored; state = record { phase = next } }
+    → stepTold r ≡ record { no = 0; signal = NoSignal; first = first; second = 0; stored = stored; next = next }
     → first ≡ length sent → length xs ≡ stored → out₁ ≡ put sent out₀ → Says (sends sent [] xs next) out₀ r out₁
 said-one sent xs next first stored e f t p = said (sends sent [] xs next) first 0 stored e f refl t (rw (append-nil sent) p)
 
 -- and where none is
 pub said-none : (o : Outcome) {out : List ℕ} {r : Stepped} (stored : ℕ)
-    → r ≡ record { told = o .told; signal = o .signal; first = 0; second = 0; stored = stored; state = record { phase = o .next } }
+    → stepTold r ≡ record { no = o .told; signal = o .signal; first = 0; second = 0; stored = stored; next = o .next }
     → o .first ≡ [] → o .second ≡ [] → length (o .stored) ≡ stored → Says o out r out
 said-none o {out} stored e f s t = said o 0 0 stored e (ap length (sym f)) (ap length (sym s)) t (rw (f, s) (sym (put-nil out)))
 
 -- what is said for one choice is said for the same one by another name
-pub said-same : (F : Choice → Outcome) {a b : Choice} {out₀ out₁ : List ℕ} {r : Stepped} → a ≡ b → Says (F b) out₀ r out₁ → Says (F a) out₀ r out₁
+pub said-same : {A : Type 0} (F : A → Outcome) {a b : A} {out₀ out₁ : List ℕ} {r : Stepped} → a ≡ b → Says (F b) out₀ r out₁ → Says (F a) out₀ r out₁
 said-same F e s = rw e s
 
 -- ---- the CL or CLR of a table
@@ -208,11 +208,11 @@ module _ (kind : ℕ) (set : Settings) (own : List ℕ) where
 -- ---- the MS of a choice
 
 -- what lies in the wishes does so by another name
-pub lies-same : (wishes : List ℕ) {a b : Choice} → a ≡ b → Lies wishes a → Lies wishes b
+pub lies-same : (wishes : List ℕ) {a b : Choice} → a ≡ b → Lies wishes (choiceTold a) → Lies wishes (choiceTold b)
 lies-same wishes e h = rw e at h
 
 -- a choice from good wishes lies in them and is good
-pub choice-lies : (own : List ℕ) (far : Far) (wishes : List ℕ) (r : Choice) → goodWishes wishes ≡ true → r ≡ choice own far wishes → Lies wishes r
+pub choice-lies : (own : List ℕ) (far : Far) (wishes : List ℕ) (r : Choice) → goodWishes wishes ≡ true → choiceTold r ≡ choice own far wishes → Lies wishes (choiceTold r)
 choice-lies own far wishes (Chosen p) g e =
     let f = chosen-first own far wishes p (sym e) in
     let w = good-fields mostWishes wishes g (f .wish) (first-member f) in
@@ -242,6 +242,6 @@ module _ (set : Settings) (far : FarOffer) (wishes : List ℕ) (p : Pick) where
   mode-put d e h = rw (e, part-size (p .at) (p .length)) at h
 
   -- and it has at most 31 octets
-  pub mode-short : AreOctets wishes → Lies wishes (Chosen p) → length (sentMode set far wishes p) ≤ 31
+  pub mode-short : AreOctets wishes → Lies wishes (choiceTold (Chosen p)) → length (sentMode set far wishes p) ≤ 31
   unfolding sentMode
   mode-short o l = sent-short 1 (modeOffer set far) (take (p .length) (drop (p .at) wishes)) (omega arith) (part-octets (p .at) (p .length) wishes o (l .0)) (l .1)

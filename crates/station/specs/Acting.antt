@@ -1,28 +1,20 @@
--- What each act of the table does (document 01, "The station"): what is sent and stored, and the next phase.
+-- To be believed: what each act of the table does (document 01, "The station"), that is what is told, sent and stored, and the next phase.
 -- Assumes nothing.
-use Prim.Native.Nat.{ℕ, _+_, _≤_}
-use mathlib.Core.Bool.{Bool, true, false}
+use Prim.Native.Nat.{ℕ, zero, suc}
+use mathlib.Core.Bool.{Bool}
 use mathlib.Core.List.{List, []}
-use mathlib.Core.Path.{_≡_}
-use lib.ListN.{length, take, drop}
 use Rattle.octets.specs.Places.{pick}
 use Rattle.tree.specs.Codes.{codeOf}
 use Rattle.tree.specs.Fields.{isIn, codesIn}
 use Rattle.tree.specs.declared.Field.the-variants.{Standard}
-use Rattle.message.specs.Kinds.{hasFields, typeOf}
-use Rattle.message.specs.Reader.{listRoom, standardAt, messageCodes, readMessage, accepted}
+use Rattle.message.specs.Reader.{standardAt, messageCodes}
 use Rattle.names.specs.Named.{namedCode}
 use Rattle.names.specs.Masks.{only}
 use Rattle.names.specs.declared.Keep.the-variants.{All, Named}
-use Rattle.good.specs.Good.{goodField}
 use Rattle.strike.specs.Rewriting.{kept}
 use Rattle.choice.specs.Wishes.{wishesOf, standardCodes}
-use Rattle.choice.specs.Choosing.{Far, unheard, heard, choice}
+use Rattle.choice.specs.Choosing.{unheard, heard, Choosing, chosen, refused, choice}
 use Rattle.choice.specs.Judging.{verdict}
-use Rattle.choice.specs.declared.Choice.{Choice}
-use Rattle.choice.specs.declared.Choice.the-variants.{Chosen, NoChoice}
-use Rattle.choice.specs.declared.Verdict.{Verdict}
-use Rattle.choice.specs.declared.Verdict.the-variants.{Accepted, NotReady, NoFit}
 use Rattle.table.specs.declared.Phase.{Phase}
 use Rattle.table.specs.declared.Phase.the-variants.{Initial, AskedE, AskedD, ListsE, ListsD, Counter, Listed, Traded, Pair, Half, Proposed, Mode}
 use Rattle.table.specs.Phases.{wishOf, ackOf}
@@ -33,14 +25,13 @@ use Rattle.table.specs.declared.After.the-variants.{ThenMs, ThenClMs, ThenCl, T
 use Rattle.table.specs.declared.Settings.{Settings}
 use Rattle.station.specs.Sending.{noOffer, sentList, sentMode, sentAck, sentNak}
 use Rattle.station.specs.declared.FarOffer.{FarOffer}
-use Rattle.station.specs.declared.Told.{Told}
-use Rattle.station.specs.declared.Told.the-variants.{Done, NotInTable, NothingToPropose}
 use Rattle.station.specs.declared.Sends.{Sends}
 use Rattle.station.specs.declared.Sends.the-variants.{NoSignal, SendsMrE, SendsMrD, SendsCrE, SendsCrD}
 
--- what a step does: what it tells, the signal and the fields it sends, what it stores, and the next phase
+-- what a step does: document 01's number that it tells, 0 for success, the signal and the fields it sends, what it stores, and the next
+-- phase
 pub record Outcome : Type 0 where
-  pub told : Told
+  pub told : ℕ
   pub signal : Sends
   pub first : List ℕ
   pub second : List ℕ
@@ -48,14 +39,14 @@ pub record Outcome : Type 0 where
   pub next : Phase
 
 -- nothing is sent or stored
-abbrev pub quiet : Told → Phase → Outcome
-quiet told p = record { told = told; signal = NoSignal; first = []; second = []; stored = []; next = p }
+abbrev pub quiet : ℕ → Phase → Outcome
+quiet n p = record { told = n; signal = NoSignal; first = []; second = []; stored = []; next = p }
 
 abbrev pub signals : Sends → Phase → Outcome
-signals s p = record { told = Done; signal = s; first = []; second = []; stored = []; next = p }
+signals s p = record { told = 0; signal = s; first = []; second = []; stored = []; next = p }
 
 abbrev pub sends : List ℕ → List ℕ → List ℕ → Phase → Outcome
-sends first second stored p = record { told = Done; signal = NoSignal; first = first; second = second; stored = stored; next = p }
+sends first second stored p = record { told = 0; signal = NoSignal; first = first; second = second; stored = stored; next = p }
 
 -- ---- what the far side says
 
@@ -79,18 +70,18 @@ storedMode m = kept All Standard m (standardAt m)
 
 -- ---- the acts
 
--- 11: there is no choice, and nothing is sent; the store keeps the far list
-abbrev pub stays : List ℕ → ℕ → Outcome
-stays stored time = record { told = NothingToPropose; signal = NoSignal; first = []; second = []; stored = stored; next = Initial time }
+-- a refusal behind which the phase is Initial: nothing is sent, and the store keeps the far list
+abbrev pub stays : ℕ → List ℕ → ℕ → Outcome
+stays n stored time = record { told = n; signal = NoSignal; first = []; second = []; stored = stored; next = Initial time }
 
--- the choice is sent as MS, behind a CL or alone; without one, 11
-abbrev pub proposes : Choice → Settings → FarOffer → List ℕ → List ℕ → ℕ → Outcome
-proposes (Chosen p) set far run stored time = sends (sentMode set far run p) [] stored (Proposed time (p .number) (set .ack))
-proposes NoChoice set far run stored time = stays stored time
+-- the choice is sent as MS, behind a CL or alone; without one, its refusal is told
+abbrev pub proposes : Choosing → Settings → FarOffer → List ℕ → List ℕ → ℕ → Outcome
+proposes (chosen p) set far run stored time = sends (sentMode set far run p) [] stored (Proposed time (p .number) (set .ack))
+proposes (refused n) set far run stored time = stays n stored time
 
-abbrev pub proposesBehind : List ℕ → Choice → Settings → FarOffer → List ℕ → List ℕ → ℕ → Outcome
-proposesBehind list (Chosen p) set far run stored time = sends list (sentMode set far run p) stored (Proposed time (p .number) (set .ack))
-proposesBehind list NoChoice set far run stored time = stays stored time
+abbrev pub proposesBehind : List ℕ → Choosing → Settings → FarOffer → List ℕ → List ℕ → ℕ → Outcome
+proposesBehind list (chosen p) set far run stored time = sends list (sentMode set far run p) stored (Proposed time (p .number) (set .ack))
+proposesBehind list (refused n) set far run stored time = stays n stored time
 
 -- a list was heard and is stored; run is the wishes
 abbrev pub takes : After → Settings → List ℕ → List ℕ → List ℕ → ℕ → Outcome
@@ -101,13 +92,12 @@ takes ThenCl set own run m time = sends (sentList 2 set own) [] (storedList m) (
 takes ThenHalf set own run m time = sends [] [] (storedList m) (Half time)
 
 -- the verdict on an MS: accepted gives ACK(1) if its bit asks, else nothing, and Mode; otherwise the NAK and Initial
-abbrev pub judges : Verdict → List ℕ → ℕ → Outcome
-judges Accepted m time = sends (pick (asksAck m) sentAck []) [] (storedMode m) (Mode time 0 (asksAck m))
-judges NotReady m time = sends (sentNak 2) [] [] (Initial time)
-judges NoFit m time = sends (sentNak 3) [] [] (Initial time)
+abbrev pub judges : ℕ → List ℕ → ℕ → Outcome
+judges zero m time = sends (pick (asksAck m) sentAck []) [] (storedMode m) (Mode time 0 (asksAck m))
+judges (suc k) m time = sends (sentNak (suc k)) [] [] (Initial time)
 
 abbrev pub does : Act → Phase → Settings → List ℕ → List ℕ → List ℕ → ℕ → Outcome
-does NoRow p set own run m time = quiet NotInTable p
+does NoRow p set own run m time = quiet 10 p
 does SendMrE p set own run m time = signals SendsMrE (AskedE time)
 does SendMrD p set own run m time = signals SendsMrD (AskedD time)
 does CounterMrD p set own run m time = signals SendsMrD (Counter time)
@@ -119,37 +109,6 @@ does SendClr p set own run m time = sends (sentList 3 set own) [] [] (Traded tim
 does PairClr p set own run m time = sends (sentList 3 set own) [] [] (Pair time)
 does (Take after) p set own run m time = takes after set own run m time
 does Judge p set own run m time = judges (verdict (codesIn Standard m (standardAt m)) (wishesOf run)) m time
-does Agree p set own run m time = quiet Done (Mode time (wishOf p) (ackOf p))
-does GiveUp p set own run m time = quiet Done (Initial time)
+does Agree p set own run m time = quiet 0 (Mode time (wishOf p) (ackOf p))
+does GiveUp p set own run m time = quiet 0 (Initial time)
 does SendNak1 p set own run m time = sends (sentNak 1) [] [] (Initial time)
-
--- ---- inner: no public contract cites what follows
-
--- the act looks at the message heard
-abbrev pub needsField : Act → Bool
-needsField NoRow = false
-needsField SendMrE = false
-needsField SendMrD = false
-needsField CounterMrD = false
-needsField SendCrE = false
-needsField SendCrD = false
-needsField Propose = false
-needsField SendCl = false
-needsField SendClr = false
-needsField PairClr = false
-needsField (Take after) = true
-needsField Judge = true
-needsField Agree = false
-needsField GiveUp = false
-needsField SendNak1 = false
-
--- a message with fields was heard, and its standard field is at a place
-pub record Standing (m : List ℕ) (standard : ℕ) : Type 0 where
-  pub fine : readMessage m listRoom ≡ accepted
-  pub fields : hasFields (typeOf m) ≡ true
-  pub place : standard ≡ standardAt m
-
--- the wish that was chosen lies in the run and is good
-abbrev pub Lies : List ℕ → Choice → Type 0
-Lies run (Chosen p) = (p .at + p .length ≤ length run) × (goodField (take (p .length) (drop (p .at) run)) ≡ true) × (p .number ≤ 16)
-Lies run NoChoice = Unit {0}

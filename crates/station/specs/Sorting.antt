@@ -1,7 +1,6 @@
--- What an event is to the station: something that its table knows, or a message of unknown type.
+-- To be believed: what an event is to the station, something that its table knows or a message of unknown type.
 -- Assumes nothing.
 use Prim.Native.Nat.{ℕ}
-use mathlib.Core.Bool.{Bool, true, false}
 use mathlib.Core.List.{List}
 use lib.Dec.{eqb}
 use Rattle.octets.specs.Places.{pick}
@@ -57,25 +56,3 @@ sortOf Field m = fieldHeard (readMessage m listRoom) m
 sortOf InvalidFrame m = known Spoilt
 sortOf Answer m = known AnswerTone
 sortOf Reset m = strange
-
--- a message with fields. Inner
-abbrev pub isMessage : Heard → Bool
-isMessage StartMrE = false
-isMessage StartMrD = false
-isMessage StartCrE = false
-isMessage StartCrD = false
-isMessage StartMs = false
-isMessage StartCl = false
-isMessage StartClr = false
-isMessage HeardMrE = false
-isMessage HeardMrD = false
-isMessage HeardCrE = false
-isMessage HeardCrD = false
-isMessage GotMs = true
-isMessage GotCl = true
-isMessage GotClr = true
-isMessage GotAck1 = false
-isMessage GotAck2 = false
-isMessage GotNak = false
-isMessage AnswerTone = false
-isMessage Spoilt = false

@@ -1,8 +1,8 @@
--- One step of the station (document 01, "The station"): the refusals in their order, then the table.
+-- To be believed: one step of the station (document 01, "The station"), the refusals in their order, then the table.
 -- Assumes nothing.
 use Prim.Native.Nat.{ℕ, _-_}
 use mathlib.Core.Bool.{Bool, true, false, not}
-use mathlib.Core.List.{List, [], _++_}
+use mathlib.Core.List.{List, _++_}
 use mathlib.Core.Path.{_≡_}
 use lib.Dec.{ltb}
 use lib.ListN.{length}
@@ -16,18 +16,16 @@ use Rattle.table.specs.declared.Kind.{Kind}
 use Rattle.table.specs.declared.Kind.the-variants.{AtInitial, AtAskedE, AtAskedD, AtListsE, AtListsD, AtCounter, AtListed, AtTraded, AtPair, AtHalf, AtProposed, AtMode}
 use Rattle.table.specs.declared.Settings.{Settings}
 use Rattle.table.specs.declared.State.{State}
-use Rattle.table.specs.Phases.{kindOf, entryOf, ackOf}
+use Rattle.table.specs.Phases.{kindOf, entryOf, ackOf, isOver}
 use Rattle.table.specs.Rows.{actOf}
-use Rattle.table.specs.Bound.{isOver}
-use Rattle.station.specs.Sorting.{Sort, known, strange, sortOf, isMessage}
-use Rattle.station.specs.Acting.{Outcome, quiet, does, Standing}
+use Rattle.station.specs.Sorting.{Sort, known, strange, sortOf}
+use Rattle.station.specs.Acting.{Outcome, quiet, does}
 use Rattle.station.specs.declared.Event.{Event}
 use Rattle.station.specs.declared.Event.the-variants.{Begin, Tones, Field, InvalidFrame, Answer, Reset}
+use Rattle.station.specs.declared.Sends.{Sends}
 use Rattle.station.specs.declared.Told.{Told}
 use Rattle.station.specs.declared.Told.the-variants.{Done, SmallBuffers, BadOwn, BadWishes, Outside, TimeBefore, TimedOut, UnknownType, NotInTable, NothingToPropose}
 use Rattle.station.specs.declared.Stepped.{Stepped}
-use Rattle.station.specs.declared.Hearing.{Hearing}
-use Rattle.station.specs.declared.Hearing.the-variants.{Thing, Unknown}
 
 -- document 01's number of what a step tells, 0 for success
 abbrev pub toldNo : Told → ℕ
@@ -72,24 +70,24 @@ isLate k entry time = pick (isOver k) false (ltb longest (time - entry))
 -- what a known event does by the table; 9 for a message of unknown type
 abbrev pub sorted : Sort → Phase → Settings → List ℕ → List ℕ → List ℕ → ℕ → Outcome
 sorted (known h) p set own run m time = does (actOf (kindOf p) set (ackOf p) h) p set own run m time
-sorted strange p set own run m time = quiet UnknownType p
+sorted strange p set own run m time = quiet 9 p
 
 -- 5, 6, 10 in Mode, and then the event
 unfoldable pub timed : Phase → Settings → List ℕ → List ℕ → Event → List ℕ → ℕ → Outcome
 timed p set own run event m time =
-    pick (ltb time (entryOf p)) (quiet TimeBefore p)
-    (pick (isLate (kindOf p) (entryOf p) time) (quiet TimedOut (Initial time))
-    (pick (isMode (kindOf p)) (quiet NotInTable p)
+    pick (ltb time (entryOf p)) (quiet 5 p)
+    (pick (isLate (kindOf p) (entryOf p) time) (quiet 6 (Initial time))
+    (pick (isMode (kindOf p)) (quiet 10 p)
     (sorted (sortOf event m) p set own run m time)))
 
 -- 1 to 4, and then the time
 unfoldable pub checked : Phase → Settings → List ℕ → List ℕ → Event → List ℕ → ℕ → ℕ → ℕ → Outcome
 checked p set own run event m time outSize storeSize =
-    pick (ltb outSize outputRoom) (quiet SmallBuffers p)
-    (pick (ltb storeSize storeRoom) (quiet SmallBuffers p)
-    (pick (not (goodOwn own)) (quiet BadOwn p)
-    (pick (not (goodWishes run)) (quiet BadWishes p)
-    (pick (not (allInside own (wishesOf run))) (quiet Outside p)
+    pick (ltb outSize outputRoom) (quiet 1 p)
+    (pick (ltb storeSize storeRoom) (quiet 1 p)
+    (pick (not (goodOwn own)) (quiet 2 p)
+    (pick (not (goodWishes run)) (quiet 3 p)
+    (pick (not (allInside own (wishesOf run))) (quiet 4 p)
     (timed p set own run event m time)))))
 
 abbrev pub isReset : Event → Bool
@@ -103,42 +101,46 @@ isReset Reset = true
 -- reset gives Initial with no check at all
 unfoldable pub stepOf : Phase → Settings → List ℕ → List ℕ → Event → List ℕ → ℕ → ℕ → ℕ → Outcome
 stepOf p set own run event m time outSize storeSize =
-    pick (isReset event) (quiet Done (Initial time)) (checked p set own run event m time outSize storeSize)
+    pick (isReset event) (quiet 0 (Initial time)) (checked p set own run event m time outSize storeSize)
 
--- the answer that an outcome gives: lengths of what is sent and stored, and the next state
-abbrev pub steppedOf : Outcome → Stepped
-steppedOf o =
+-- a reply: document 01's number, 0 for success, the signal, the lengths of the fields sent and of what was stored, and the next phase
+pub record Reply : Type 0 where
+  pub no : ℕ
+  pub signal : Sends
+  pub first : ℕ
+  pub second : ℕ
+  pub stored : ℕ
+  pub next : Phase
+
+-- the reply that an answer is, and the one that an outcome asks for
+abbrev pub stepTold : Stepped → Reply
+stepTold r =
     record {
-      told = o .told;
+      no = toldNo (r .told);
+      signal = r .signal;
+      first = r .first;
+      second = r .second;
+      stored = r .stored;
+      next = r .state .phase;
+    }
+
+abbrev pub stepReply : Outcome → Reply
+stepReply o =
+    record {
+      no = o .told;
       signal = o .signal;
       first = length (o .first);
       second = length (o .second);
       stored = length (o .stored);
-      state = record { phase = o .next };
+      next = o .next;
     }
 
 -- the answer r, the output and the store are those of an outcome: what is sent and stored stands at their fronts, and nothing else changed
 pub record Did (o : Outcome) (out₀ store₀ : List ℕ) (r : Stepped) (out₁ store₁ : List ℕ) : Type 0 where
-  pub reply : r ≡ steppedOf o
+  pub reply : stepTold r ≡ stepReply o
   pub output : out₁ ≡ put (o .first ++ o .second) out₀
   pub store : store₁ ≡ put (o .stored) store₀
 
 -- what a station begins as
 abbrev pub begun : ℕ → State
 begun time = record { phase = Initial time }
-
--- ---- inner: no public contract cites what follows
-
--- the answer and the output alone
-pub record Says (o : Outcome) (out₀ : List ℕ) (r : Stepped) (out₁ : List ℕ) : Type 0 where
-  pub reply : r ≡ steppedOf o
-  pub output : out₁ ≡ put (o .first ++ o .second) out₀
-
--- the same for any octets that were stored, so many of them
-abbrev pub SaysAny : (List ℕ → Outcome) → ℕ → List ℕ → Stepped → List ℕ → Type 0
-SaysAny f stored out₀ r out₁ = (xs : List ℕ) → length xs ≡ stored → Says (f xs) out₀ r out₁
-
--- what was heard, and where the standard field of a message with fields is
-abbrev pub Hears : Event → List ℕ → Hearing → Type 0
-Hears event m (Thing h standard) = (sortOf event m ≡ known h) × (isMessage h ≡ true → Standing m standard)
-Hears event m Unknown = sortOf event m ≡ strange

@@ -14,13 +14,15 @@ ghost use Rattle.message.specs.Reader.{listRoom, standardAt, messageCodes, read
 ghost use Rattle.good.specs.Good.{goodField};
 ghost use Rattle.strike.specs.Rewriting.{kept};
 ghost use Rattle.choice.specs.Wishes.{wishesOf, goodWishes, standardCodes};
-ghost use Rattle.choice.specs.Choosing.{unheard, choice};
+ghost use Rattle.choice.specs.Choosing.{unheard, choice, choiceTold};
 ghost use Rattle.choice.specs.Judging.{verdict};
 ghost use Rattle.table.specs.Phases.{wishOf, ackOf};
 ghost use Rattle.station.specs.Sending.{sentField, sentList, sentMode, listOffer, modeOffer, noOffer};
 ghost use Rattle.station.specs.Sorting.{sortOf, startHeard, signalHeard, typeHeard};
-ghost use Rattle.station.specs.Acting.{quiet, sends, farOffer, proposes, proposesBehind, takes, judges, does, needsField, Standing, Lies};
-ghost use Rattle.station.specs.Stepping.{isLate, isMode, isReset, timed, checked, stepOf, steppedOf, sorted, Did, Says, SaysAny, Hears, begun};
+ghost use Rattle.station.specs.Acting.{quiet, sends, farOffer, proposes, proposesBehind, takes, judges, does};
+ghost use Rattle.station.specs.Stepping.{toldNo, isLate, isMode, isReset, timed, checked, sorted, stepTold, stepReply, Did};
+ghost use Rattle.station.specs.Contracts.{TellsBegun, Steps};
+ghost use Rattle.station.specs.Inner.{needsField, Standing, Lies, Says, SaysAny, Hears};
 use choice::Choice;
 use choice::Pick;
 use choice::Tables;
@@ -135,7 +137,7 @@ pub struct Stepped {
 
 // What a station begins as, and what reset gives.
 pub fn begin(time: u64) -> State
-    ensures { λ r. ⌜ r ≡ begun time ⌝ }
+    ensures { λ r. ⌜ TellsBegun time r ⌝ }
 {
     State {
         phase: Phase::Initial(time),
@@ -151,7 +153,7 @@ fn answer(
     stored: usize,
     phase: Phase,
 ) -> Stepped
-    ensures { λ r. ⌜ r ≡ record { told = told; signal = signal; first = first; second = second; stored = stored; state = record { phase = phase } } ⌝ }
+    ensures { λ r. ⌜ stepTold r ≡ record { no = toldNo told; signal = signal; first = first; second = second; stored = stored; next = phase } ⌝ }
 {
     Stepped {
         told,
@@ -228,7 +230,7 @@ fn put_message(kind: u8, offer: Offer, standard: &[u8], out: &mut [u8]) -> usize
 
 // Puts the MS of the wish that was chosen.
 fn put_mode(set: Settings, far: FarOffer, run: &[u8], chosen: Pick, out: &mut [u8]) -> usize
-    requires { ⌜ Lies (now run) (Choice.Chosen chosen) × (64 ≤ length (now out)) ⌝ }
+    requires { ⌜ Lies (now run) (choiceTold (Choice.Chosen chosen)) × (64 ≤ length (now out)) ⌝ }
     ensures { λ r. ⌜ (r ≡ length (sentMode set far (now (run .entry)) chosen)) × (now (out .exit) ≡ put (sentMode set far (now (run .entry)) chosen) (now (out .entry))) ⌝ }
 {
     let offer = mode_offer(set, far);
@@ -264,8 +266,8 @@ fn propose(
     time: u64,
     out: &mut [u8],
 ) -> Stepped
-    requires { ⌜ Lies (now run) found × (64 ≤ length (now out)) ⌝ }
-    ensures { λ r. ⌜ SaysAny (λ xs. proposes found set far (now (run .entry)) xs time) stored (now (out .entry)) r (now (out .exit)) ⌝ }
+    requires { ⌜ Lies (now run) (choiceTold found) × (64 ≤ length (now out)) ⌝ }
+    ensures { λ r. ⌜ SaysAny (λ xs. proposes (choiceTold found) set far (now (run .entry)) xs time) stored (now (out .entry)) r (now (out .exit)) ⌝ }
 {
     match found {
         Choice::Chosen(chosen) => {
@@ -303,8 +305,8 @@ fn propose_behind(
     time: u64,
     out: &mut [u8],
 ) -> Stepped
-    requires { ⌜ Lies (now run) found × (goodField (now own) ≡ true) × (128 ≤ length (now out)) ⌝ }
-    ensures { λ r. ⌜ SaysAny (λ xs. proposesBehind (sentList 2 set (now (own .entry))) found set far (now (run .entry)) xs time) stored (now (out .entry)) r (now (out .exit)) ⌝ }
+    requires { ⌜ Lies (now run) (choiceTold found) × (goodField (now own) ≡ true) × (128 ≤ length (now out)) ⌝ }
+    ensures { λ r. ⌜ SaysAny (λ xs. proposesBehind (sentList 2 set (now (own .entry))) (choiceTold found) set far (now (run .entry)) xs time) stored (now (out .entry)) r (now (out .exit)) ⌝ }
 {
     match found {
         Choice::Chosen(chosen) => {
@@ -414,7 +416,7 @@ fn send_octet(octet: u8, stored: usize, next: Phase, out: &mut [u8]) -> Stepped
 // An MS was accepted: it is stored, and ACK(1) is sent if it asks for that.
 fn accept_mode(m: &[u8], standard: usize, time: u64, out: &mut [u8], store: &mut [u8]) -> Stepped
     requires { ⌜ Standing (now m) standard × (128 ≤ length (now out)) × (64 ≤ length (now store)) ⌝ }
-    ensures { λ r. ⌜ Did (judges Verdict.Accepted (now (m .entry)) time) (now (out .entry)) (now (store .entry)) r (now (out .exit)) (now (store .exit)) ⌝ }
+    ensures { λ r. ⌜ Did (judges 0 (now (m .entry)) time) (now (out .entry)) (now (store .entry)) r (now (out .exit)) (now (store .exit)) ⌝ }
 {
     let stored = store_field(m, standard, Keep::All, store);
     if says(m, ASKS_ACK) {
@@ -463,7 +465,7 @@ fn propose_first(set: Settings, run: &[u8], time: u64, out: &mut [u8]) -> Steppe
 
 // The mode that was proposed is agreed.
 fn agree(phase: Phase, time: u64) -> Stepped
-    ensures { λ r. ⌜ r ≡ steppedOf (quiet Told.Done (Phase.Mode time (wishOf phase) (ackOf phase))) ⌝ }
+    ensures { λ r. ⌜ stepTold r ≡ stepReply (quiet 0 (Phase.Mode time (wishOf phase) (ackOf phase))) ⌝ }
 {
     let wish = wish_of(phase);
     let ack = ack_of(phase);
@@ -723,7 +725,7 @@ pub fn step(
     out: &mut [u8],
     store: &mut [u8],
 ) -> Stepped
-    ensures { λ r. ⌜ Did (stepOf (state .phase) set (now (own .entry)) (now (run .entry)) event (now (m .entry)) time (length (now (out .entry))) (length (now (store .entry)))) (now (out .entry)) (now (store .entry)) r (now (out .exit)) (now (store .exit)) ⌝ }
+    ensures { λ r. ⌜ Steps state set (now (own .entry)) (now (run .entry)) event (now (m .entry)) time (now (out .entry)) (now (store .entry)) r (now (out .exit)) (now (store .exit)) ⌝ }
 {
     let phase = state.phase;
     if is_reset(event) {

@@ -25,8 +25,9 @@ use Rattle.table.specs.declared.OnMrD.{OnMrD}
 use Rattle.table.specs.declared.OnMrD.the-variants.{ByMs, ByLists}
 use Rattle.table.specs.declared.Row.{Row}
 use Rattle.table.specs.declared.Settings.{Settings}
+use Rattle.table.specs.Phases.{isOver}
 use Rattle.table.specs.Rows.{onMrE, onMrD, onCrD, onCrE, initialAct, rowAct, toneAct, actOf}
-use Rattle.table.specs.Bound.{leadsTo, isActed, isOver, Turn, actAt, kindAfter, GoesOn}
+use Rattle.table.specs.Bound.{leadsTo, isActed, Turn, actAt, kindAfter, GoesOn}
 
 -- ---- the test
 

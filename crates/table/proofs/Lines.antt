@@ -1,10 +1,8 @@
 -- The table read the other way (document 01, "The station"): for each thing heard, the phases that act on it and what they do.
 -- Assumes nothing.
-use Prim.Native.Nat.{ℕ}
 use mathlib.Core.Path.{_≡_, refl}
-use mathlib.Core.Bool.{Bool, true, false, cond, _||_}
+use mathlib.Core.Bool.{Bool, true, false, cond}
 use mathlib.Core.List.{List, [], _∷_}
-use lib.Dec.{eqb}
 use Rattle.table.specs.declared.Kind.{Kind}
 use Rattle.table.specs.declared.Kind.the-variants.{AtInitial, AtAskedE, AtAskedD, AtListsE, AtListsD, AtCounter, AtListed, AtTraded, AtPair, AtHalf, AtProposed, AtMode}
 use Rattle.table.specs.declared.Heard.{Heard}
@@ -15,27 +13,10 @@ use Rattle.table.specs.declared.After.the-variants.{ThenMs, ThenClMs, Th
 use Rattle.table.specs.declared.Row.{Row}
 use Rattle.table.specs.declared.Settings.{Settings}
 use Rattle.table.specs.Rows.{onMrE, onMrD, onCrD, onCrE, initialAct, rowAct, actOf}
+use Rattle.table.specs.Among.{isAmong}
 use Rattle.table.specs.Bound.{isActed}
 
 -- ---- in some phases, and in all
-
-abbrev pub number : Kind → ℕ
-number AtInitial = 0
-number AtAskedE = 1
-number AtAskedD = 2
-number AtListsE = 3
-number AtListsD = 4
-number AtCounter = 5
-number AtListed = 6
-number AtTraded = 7
-number AtPair = 8
-number AtHalf = 9
-number AtProposed = 10
-number AtMode = 11
-
-abbrev pub isAmong : Kind → List Kind → Bool
-isAmong k [] = false
-isAmong k (x ∷ xs) = eqb (number k) (number x) || isAmong k xs
 
 -- the first act in these phases, the second in every other
 abbrev pub within : List Kind → Act → Act → Kind → Act

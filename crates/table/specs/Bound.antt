@@ -1,4 +1,5 @@
--- A transaction (document 01: "over by its fourth acted-on event, its first included"): from Initial, each event acted on, to Initial or Mode.
+-- Inner: a transaction (document 01: "over by its fourth acted-on event, its first included"), from Initial, each event acted on, to Initial
+-- or Mode.
 -- Assumes nothing.
 use mathlib.Core.Bool.{Bool, true, false}
 use mathlib.Core.List.{List, [], _∷_}
@@ -11,6 +12,7 @@ use Rattle.table.specs.declared.Act.the-variants.{NoRow, SendMrE, SendMr
 use Rattle.table.specs.declared.After.{After}
 use Rattle.table.specs.declared.After.the-variants.{ThenMs, ThenClMs, ThenCl, ThenHalf}
 use Rattle.table.specs.declared.Settings.{Settings}
+use Rattle.table.specs.Phases.{isOver}
 use Rattle.table.specs.Rows.{actOf}
 
 -- a where it was found, else b
@@ -58,21 +60,6 @@ isActed Judge = true
 isActed Agree = true
 isActed GiveUp = true
 isActed SendNak1 = true
-
--- a transaction is over in these
-abbrev pub isOver : Kind → Bool
-isOver AtInitial = true
-isOver AtAskedE = false
-isOver AtAskedD = false
-isOver AtListsE = false
-isOver AtListsD = false
-isOver AtCounter = false
-isOver AtListed = false
-isOver AtTraded = false
-isOver AtPair = false
-isOver AtHalf = false
-isOver AtProposed = false
-isOver AtMode = true
 
 -- one event: what was heard, how the station was set, whether ACK had been asked, and what was found
 pub record Turn : Type 0 where

@@ -1,4 +1,4 @@
--- A phase: its name, the time it was entered, and what it carries of an MS.
+-- To be believed: a phase, by its name, the time it was entered and what it carries of an MS; and whether a transaction is over in it.
 -- Assumes nothing.
 use Prim.Native.Nat.{ℕ}
 use mathlib.Core.Bool.{Bool, true, false}
@@ -65,3 +65,18 @@ ackOf (Pair t) = false
 ackOf (Half t) = false
 ackOf (Proposed t w a) = a
 ackOf (Mode t w a) = a
+
+-- a transaction is over in these
+abbrev pub isOver : Kind → Bool
+isOver AtInitial = true
+isOver AtAskedE = false
+isOver AtAskedD = false
+isOver AtListsE = false
+isOver AtListsD = false
+isOver AtCounter = false
+isOver AtListed = false
+isOver AtTraded = false
+isOver AtPair = false
+isOver AtHalf = false
+isOver AtProposed = false
+isOver AtMode = true

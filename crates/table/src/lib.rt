@@ -1,9 +1,8 @@
 // The station's phases, what it can hear, how it is set, and its table (document 01, "The station"): from a phase and what was heard to
 // what is done.
 ghost use mathlib.Core.Path.{_≡_};
-ghost use Rattle.table.specs.Phases.{kindOf, entryOf, wishOf, ackOf};
-ghost use Rattle.table.specs.Rows.{onMrE, onMrD, onCrD, onCrE, initialAct, rowAct, toneAct, row, actOf};
-ghost use Rattle.table.specs.Bound.{isOver};
+ghost use Rattle.table.specs.Rows.{onMrE, onMrD, onCrD, onCrE, initialAct, rowAct, toneAct, row};
+ghost use Rattle.table.specs.Contracts.{TellsKind, TellsEntry, TellsWish, TellsAck, TellsOver, TellsAct};
 
 // A phase with what it carries: the time it was entered (milliseconds), and where an MS was sent or accepted the number of the wish
 // sent, 0 if none, and whether ACK was asked.
@@ -142,7 +141,7 @@ pub struct Row {
 
 // A phase's name.
 pub fn kind_of(phase: Phase) -> Kind
-    ensures { λ r. ⌜ r ≡ kindOf phase ⌝ }
+    ensures { λ r. ⌜ TellsKind phase r ⌝ }
 {
     match phase {
         Phase::Initial(_) => Kind::AtInitial,
@@ -162,7 +161,7 @@ pub fn kind_of(phase: Phase) -> Kind
 
 // The time it was entered.
 pub fn entry_of(phase: Phase) -> u64
-    ensures { λ r. ⌜ r ≡ entryOf phase ⌝ }
+    ensures { λ r. ⌜ TellsEntry phase r ⌝ }
 {
     match phase {
         Phase::Initial(t) => t,
@@ -182,7 +181,7 @@ pub fn entry_of(phase: Phase) -> u64
 
 // The number of the wish sent, 0 if none.
 pub fn wish_of(phase: Phase) -> u8
-    ensures { λ r. ⌜ r ≡ wishOf phase ⌝ }
+    ensures { λ r. ⌜ TellsWish phase r ⌝ }
 {
     match phase {
         Phase::Initial(_) => 0,
@@ -202,7 +201,7 @@ pub fn wish_of(phase: Phase) -> u8
 
 // Whether ACK was asked.
 pub fn ack_of(phase: Phase) -> bool
-    ensures { λ r. ⌜ r ≡ ackOf phase ⌝ }
+    ensures { λ r. ⌜ TellsAck phase r ⌝ }
 {
     match phase {
         Phase::Initial(_) => false,
@@ -222,7 +221,7 @@ pub fn ack_of(phase: Phase) -> bool
 
 // Whether a transaction is over in a phase.
 pub fn is_over(kind: Kind) -> bool
-    ensures { λ r. ⌜ r ≡ isOver kind ⌝ }
+    ensures { λ r. ⌜ TellsOver kind r ⌝ }
 {
     match kind {
         Kind::AtInitial => true,
@@ -395,7 +394,7 @@ fn row_of_proposed(asked: bool) -> Row
 
 // The table: what is done in a phase when something is heard.
 pub fn act_of(kind: Kind, set: Settings, asked: bool, heard: Heard) -> Act
-    ensures { λ r. ⌜ r ≡ actOf kind set asked heard ⌝ }
+    ensures { λ r. ⌜ TellsAct kind set asked heard r ⌝ }
 {
     let mrd = set.mrd;
     let crd = set.crd;

@@ -4,9 +4,9 @@ use Prim.Native.Nat.{ℕ}
 use mathlib.Core.List.{List}
 use mathlib.Core.Path.{_≡_, refl, sym, _∙_}
 use borrow.Author.Needs.{needs}
-use Rattle.choice.specs.declared.Verdict.the-variants.{Accepted}
 use Rattle.station.specs.Acting.{Outcome, asksAck, storedMode, judges}
-use Rattle.station.specs.Stepping.{Did, SaysAny}
+use Rattle.station.specs.Stepping.{Did}
+use Rattle.station.specs.Inner.{SaysAny}
 use Rattle.station.specs.declared.Stepped.{Stepped}
 use Rattle.station.proofs.FarSide.{did-of-any, says-silent, accepts-asked, accepts-unasked}
 use Rattle.station.proofs.accept_mode.Statement.{statement}
@@ -16,7 +16,7 @@ use Rattle.station.proofs.accept_mode.Tie as tie
 accepted : (c : tie.After-says) {f : List ℕ → Outcome} {out : List ℕ} {r : Stepped}
     → let p = c .before .before .before in
     let a = p .before .before .before .before .before .args in
-    let o = judges Accepted (a .m .now) (a .time) in
+    let o = judges 0 (a .m .now) (a .time) in
     let q = p .store-field in
     SaysAny f (q .result) (a .out .now) r out → f (storedMode (a .m .now)) ≡ o → Did o (a .out .now) (a .store .now) r out (q .last .1 .1 .1 .0)
 unfolding storedMode

@@ -1,14 +1,14 @@
 -- `station::judge` meets its contract, verdict by verdict.
 -- Assumes nothing.
 use mathlib.Core.List.{[]}
-use mathlib.Core.Path.{_≡_, refl, sym}
+use mathlib.Core.Path.{_≡_, refl, sym, ap}
 use Rattle.octets.proofs.Laying.{put-nil}
 use Rattle.tree.specs.Fields.{codesIn}
 use Rattle.tree.specs.declared.Field.the-variants.{Standard}
 use Rattle.message.specs.Reader.{standardAt}
 use Rattle.writer.specs.Writer.{messageOctets}
 use Rattle.choice.specs.Wishes.{wishesOf}
-use Rattle.choice.specs.Judging.{verdict}
+use Rattle.choice.specs.Judging.{verdict, nakOf}
 use Rattle.choice.specs.declared.Verdict.{Verdict}
 use Rattle.station.proofs.FarSide.{did-of-any, verdict-there}
 use borrow.Author.Needs.{needs}
@@ -17,8 +17,8 @@ use Rattle.station.proofs.judge.Tie as tie
 
 -- the verdict is what was answered
 decided : (c : tie.After-judge-mode) (x : Verdict) → c .judge-mode .result ≡ x
-    → let a = c .before .before .before .before .before .args in verdict (codesIn Standard (a .m .now) (standardAt (a .m .now))) (wishesOf (a .run .now)) ≡ x
-decided c x q = let s = c .before .before .before .before .before in verdict-there (s .args .m .now) (s .args .run .now) (s .pre .0 .place) (c .judge-mode .ensures) q
+    → let a = c .before .before .before .before .before .args in verdict (codesIn Standard (a .m .now) (standardAt (a .m .now))) (wishesOf (a .run .now)) ≡ nakOf x
+decided c x q = let s = c .before .before .before .before .before in verdict-there (s .args .m .now) (s .args .run .now) (s .pre .0 .place) (c .judge-mode .ensures) (ap nakOf q)
 
 judge-mode-requires : tie.Need-judge-mode-requires
 judge-mode-requires c κs = search needs

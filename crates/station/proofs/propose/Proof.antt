@@ -3,6 +3,7 @@
 use mathlib.Core.Path.{refl}
 use native.Mathlib.Omega.{arith}
 use borrow.Author.Needs.{needs}
+use Rattle.choice.specs.Choosing.{choiceTold}
 use Rattle.choice.specs.declared.Choice.the-variants.{NoChoice}
 use Rattle.table.specs.declared.Phase.the-variants.{Proposed}
 use Rattle.station.specs.Sending.{sentMode}
@@ -42,14 +43,14 @@ returns c = λ xs h.
     let f = b .before .before .before .before in
     let a = f .before .before .before .before .args in
     let p = f .found .given .0 .0 in
-    said-same (λ x. proposes x (a .set) (a .far) (a .run .now) xs (a .time)) (f .found .given .1)
+    said-same (λ x. proposes (choiceTold x) (a .set) (a .far) (a .run .now) xs (a .time)) (f .found .given .1)
     (said-one (sentMode (a .set) (a .far) (a .run .now) p) xs (Proposed (a .time) (p .number) (a .set .ack)) _ _ (c .answer .ensures) (b .put-mode .ensures .0) h (b .put-mode .ensures .1))
 
 returns-2 : tie.Need-returns-2
 returns-2 c = λ xs h.
     let a = c .before .before .before .before .before .args in
-    said-same (λ x. proposes x (a .set) (a .far) (a .run .now) xs (a .time)) (c .before .enum-told .given .1)
-    (said-none (proposes NoChoice (a .set) (a .far) (a .run .now) xs (a .time)) _ (c .answer2 .ensures) refl refl h)
+    said-same (λ x. proposes (choiceTold x) (a .set) (a .far) (a .run .now) xs (a .time)) (c .before .enum-told .given .1)
+    (said-none (proposes (choiceTold NoChoice) (a .set) (a .far) (a .run .now) xs (a .time)) _ (c .answer2 .ensures) refl refl h)
 
 pub propose-spec : {M : Type 1} → statement M
 propose-spec =

@@ -6,6 +6,7 @@ use native.Mathlib.Omega.{arith}
 use borrow.Author.Needs.{needs}
 use lib.ListN.{length, take, drop}
 use Rattle.octets.specs.Lay.{put}
+use Rattle.choice.specs.Choosing.{choiceTold}
 use Rattle.choice.specs.declared.Choice.the-variants.{Chosen, NoChoice}
 use Rattle.station.specs.Sending.{sentList, sentMode}
 use Rattle.station.specs.Acting.{proposesBehind}
@@ -83,16 +84,16 @@ returns c = λ xs h.
     let cl = sentList 2 (a .set) (a .own .now) in
     let ms = sentMode (a .set) (a .far) (a .run .now) p in
     let m = mode-short (a .set) (a .far) (a .run .now) p (λ i k. f .before .before .before .shared-slice-known2 .given i .fits) (lies-same (a .run .now) (f .found .given .1) (s .pre .0)) in
-    said-same (λ x. proposesBehind cl x (a .set) (a .far) (a .run .now) xs (a .time)) (f .found .given .1)
-    (said (proposesBehind cl (Chosen p) (a .set) (a .far) (a .run .now) xs (a .time)) _ _ _ (c .answer .ensures) (l .0) (two .put-mode .ensures .0) h
+    said-same (λ x. proposesBehind cl (choiceTold x) (a .set) (a .far) (a .run .now) xs (a .time)) (f .found .given .1)
+    (said (proposesBehind cl (choiceTold (Chosen p)) (a .set) (a .far) (a .run .now) xs (a .time)) _ _ _ (c .answer .ensures) (l .0) (two .put-mode .ensures .0) h
     (laid-second cl ms (a .out .now) _ _ _ (omega (arith, l .2, m, s .pre .2)) (l .0) (l .1) (two .put-mode .ensures .1)))
 
 returns-2 : tie.Need-returns-2
 returns-2 c = λ xs h.
     let a = c .before .before .before .before .before .before .args in
     let cl = sentList 2 (a .set) (a .own .now) in
-    said-same (λ x. proposesBehind cl x (a .set) (a .far) (a .run .now) xs (a .time)) (c .before .enum-told .given .1)
-    (said-none (proposesBehind cl NoChoice (a .set) (a .far) (a .run .now) xs (a .time)) _ (c .answer2 .ensures) refl refl h)
+    said-same (λ x. proposesBehind cl (choiceTold x) (a .set) (a .far) (a .run .now) xs (a .time)) (c .before .enum-told .given .1)
+    (said-none (proposesBehind cl (choiceTold NoChoice) (a .set) (a .far) (a .run .now) xs (a .time)) _ (c .answer2 .ensures) refl refl h)
 
 pub propose-behind-spec : {M : Type 1} → statement M
 propose-behind-spec =

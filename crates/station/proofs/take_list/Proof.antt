@@ -6,7 +6,8 @@ use mathlib.Core.Path.{_≡_}
 use native.Mathlib.Omega.{arith}
 use borrow.Author.Needs.{needs}
 use Rattle.station.specs.Acting.{Outcome, storedList, takes}
-use Rattle.station.specs.Stepping.{Did, SaysAny}
+use Rattle.station.specs.Stepping.{Did}
+use Rattle.station.specs.Inner.{SaysAny}
 use Rattle.station.specs.declared.Stepped.{Stepped}
 use Rattle.station.proofs.Sendings.{choice-lies}
 use Rattle.station.proofs.FarSide.{did-of-any, says-silent, takes-stores, takes-cl, takes-half, takes-ms, takes-cl-ms}
@@ -45,7 +46,7 @@ propose-requires : tie.Need-propose-requires
 propose-requires c κs =
     let f = c .before in
     let s = start (f .before .before .before) in
-    (choice-lies _ _ _ _ (s .pre .2) (f .first-common .ensures), omega arith)
+    (choice-lies _ _ _ (f .first-common .result) (s .pre .2) (f .first-common .ensures), omega arith)
 
 enum-told-2 : tie.Need-enum-told-2
 enum-told-2 c = search needs
@@ -57,7 +58,7 @@ propose-behind-requires : tie.Need-propose-behind-requires
 propose-behind-requires c κs =
     let f = c .before in
     let s = start (f .before .before .before) in
-    (choice-lies _ _ _ _ (s .pre .2) (f .first-common2 .ensures), s .pre .1, omega arith)
+    (choice-lies _ _ _ (f .first-common2 .result) (s .pre .2) (f .first-common2 .ensures), s .pre .1, omega arith)
 
 enum-told-3 : tie.Need-enum-told-3
 enum-told-3 c = search needs
