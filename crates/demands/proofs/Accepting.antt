@@ -1,16 +1,18 @@
 -- What is accepted: an MS that lies in a ready wish, and no other; what is answered and stored; and that Mode is reached in no third way.
 -- Assumes nothing.
-use Prim.Native.Nat.{ℕ}
+use Prim.Native.Nat.{ℕ, zero, suc, _≤_}
 use mathlib.Core.Bool.{Bool, true, false}
-use mathlib.Core.List.{List, []}
-use mathlib.Core.Logic.{_⊎_, inl, inr}
+use mathlib.Core.List.{List, [], _∷_}
+use mathlib.Core.Logic.{_⊎_, inl, inr, _↔_}
 use mathlib.Core.Path.{_≡_, refl, sym, ap, _∙_}
+use native.Mathlib.Omega.{arith}
+use lib.ListN.{length}
+use Rattle.octets.specs.Places.{pick}
 use Rattle.tree.specs.Fields.{isIn}
 use Rattle.names.specs.Named.{namedCode}
 use Rattle.choice.specs.Wishes.{wishesOf}
-use Rattle.choice.specs.declared.Verdict.{Verdict}
-use Rattle.choice.specs.declared.Verdict.the-variants.{Accepted, NotReady, NoFit}
-use Rattle.choice.proofs.Judged.{Fitting, accepted, accepts, not-readies, no-fits, unnamed-code}
+use Rattle.choice.specs.Judging.{fitsSome, fitsReady, verdict}
+use Rattle.choice.proofs.Judged.{accepted, not-ready, no-fit, unnamed-code}
 use Rattle.choice.proofs.Tabled.{tables-good}
 use Rattle.choice.proofs.Truths.{never}
 use Rattle.table.specs.declared.Phase.{Phase}
@@ -22,72 +24,55 @@ use Rattle.table.specs.declared.After.the-variants.{ThenMs, ThenClMs, ThenCl, T
 use Rattle.table.specs.Phases.{kindOf, wishOf, ackOf}
 use Rattle.table.specs.Bound.{leadsTo}
 use Rattle.station.specs.Sending.{sentAck, sentNak}
-use Rattle.station.specs.Acting.{Outcome, quiet, sends, asksAck, storedMode, judges}
+use Rattle.station.specs.Acting.{Outcome, quiet, sends, asksAck, judges}
 use Rattle.station.specs.Stepping.{isMode}
-use Rattle.station.specs.declared.Told.the-variants.{Done}
-use Rattle.demands.proofs.Following.{Given, steps, actOn, modeHeard, verdictOn, Passes, follows, of-step, finds, act-leads}
+use Rattle.station.proofs.Sendings.{ack-octet, nak-octet}
+use Rattle.demands.specs.Given.{Given, steps, actOn, doing, Passes, standardHeard}
+use Rattle.demands.specs.Sent.{IsField, farSays}
+use Rattle.demands.specs.Proposals.{Fits, Judged, asked, unasked, unready, unfit, Reaches}
+use Rattle.demands.proofs.Following.{verdictOn, follows, by-test, of-step, finds, act-leads}
+use Rattle.demands.proofs.SentFields.{mode-is-stored}
 
 -- ---- an MS is judged
 
--- it is accepted where the phase is Mode then, and declined where it is not
-mode-accepted : (v : Verdict) (m : List ℕ) (time : ℕ) → isMode (kindOf (judges v m time .next)) ≡ true → v ≡ Accepted
-mode-accepted Accepted m time e = refl
-mode-accepted NotReady m time e = never e
-mode-accepted NoFit m time e = never e
+-- a verdict is 0, 2 or 3
+pub data Verdicts : ℕ → Type 0 where
+  fits-ready : Verdicts 0
+  fits-unready : Verdicts 2
+  fits-none : Verdicts 3
 
-declined : (v : Verdict) (m : List ℕ) (time : ℕ) → isMode (kindOf (judges v m time .next)) ≡ false → (judges v m time .stored ≡ []) × (judges v m time .next ≡ Initial time)
-declined Accepted m time e = never (sym e)
-declined NotReady m time e = (refl, refl)
-declined NoFit m time e = (refl, refl)
+pub verdicts : (g : Given) → Verdicts (verdictOn g)
+unfolding verdict
+verdicts g = go (fitsReady (standardHeard g) (wishesOf (g .run))) (fitsSome (standardHeard g) (wishesOf (g .run)))
+  where
+    go : (a b : Bool) → Verdicts (pick a 0 (pick b 2 3))
+    go true b = fits-ready
+    go false true = fits-unready
+    go false false = fits-none
 
-module _ (p : Phase) (g : Given) {h : Heard} (s : Passes p g h) (j : actOn p g h ≡ Judge) where
-  by-verdict : {v : Verdict} → verdictOn g ≡ v → steps p g ≡ judges v (g .field) (g .time)
-  by-verdict e = follows p g s ∙ rw (j, e)
+-- what is done with an MS of at most 64 octets is what the verdict says
+pub mode-judged : (g : Given) → length (g .field) ≤ 64 → Judged g (judges (verdictOn g) (g .field) (g .time))
+unfolding asksAck
+mode-judged g few = go (verdicts g) refl
+  where
+    go : {v : ℕ} → Verdicts v → verdictOn g ≡ v → Judged g (judges v (g .field) (g .time))
+    go fits-ready e =
+        let f = accepted (standardHeard g) (wishesOf (g .run)) e in
+        let stored = mode-is-stored (g .field) few in
+        by-test (farSays 4 g)
+        (λ a. asked (f .0) (f .1) _ stored a (rw (a, ack-octet)))
+        (λ a. unasked (f .0) (f .1) _ stored a (rw a))
+    go fits-unready e = let f = not-ready (standardHeard g) (wishesOf (g .run)) e in unready (f .0) (f .1) (rw (nak-octet 2))
+    go fits-none e = unfit (no-fit (standardHeard g) (wishesOf (g .run)) e) (rw (nak-octet 3))
 
-  -- one that fits a ready wish is accepted; one that fits only wishes not ready gets NAK(2); any other NAK(3)
-  pub fits-accepted : (f : Fitting (modeHeard g) (wishesOf (g .run))) → f .wish .ready ≡ true → steps p g ≡ judges Accepted (g .field) (g .time)
-  fits-accepted f r = by-verdict (accepts (modeHeard g) (wishesOf (g .run)) f r)
-
-  pub unready-nak-2 : Fitting (modeHeard g) (wishesOf (g .run)) → ((f : Fitting (modeHeard g) (wishesOf (g .run))) → f .wish .ready ≡ false)
-      → steps p g ≡ sends (sentNak 2) [] [] (Initial (g .time))
-  unready-nak-2 f none = by-verdict (not-readies (modeHeard g) (wishesOf (g .run)) f none)
-
-  pub unfit-nak-3 : (Fitting (modeHeard g) (wishesOf (g .run)) → ⊥) → steps p g ≡ sends (sentNak 3) [] [] (Initial (g .time))
-  unfit-nak-3 none = by-verdict (no-fits (modeHeard g) (wishesOf (g .run)) none)
-
-  -- one with a parameter that is not named gets NAK(3)
-  pub unnamed-nak-3 : (x : ℕ) → isIn x (modeHeard g) ≡ true → namedCode x ≡ false → steps p g ≡ sends (sentNak 3) [] [] (Initial (g .time))
-  unnamed-nak-3 x i n = by-verdict (unnamed-code x (modeHeard g) (g .run) (tables-good (g .own) (g .run) (s .due .sound .tables) .wishes) i n)
-
-  module _ (e : isMode (kindOf (steps p g .next)) ≡ true) where
-    was-accepted : verdictOn g ≡ Accepted
-    was-accepted = mode-accepted (verdictOn g) (g .field) (g .time) (rw (by-verdict refl) at e)
-
-    -- what is accepted lies in a ready wish
-    pub accepted-lies : (f : Fitting (modeHeard g) (wishesOf (g .run))) × (f .wish .ready ≡ true)
-    accepted-lies = accepted (modeHeard g) (wishesOf (g .run)) was-accepted
-
-    -- it is stored, and nothing but ACK(1) is sent, exactly if it was asked for
-    pub accepted-stored : steps p g .stored ≡ storedMode (g .field)
-    accepted-stored = ap (λ (o : Outcome). o .stored) (by-verdict was-accepted)
-
-    pub ack-asked : asksAck (g .field) ≡ true → steps p g ≡ sends sentAck [] (storedMode (g .field)) (Mode (g .time) 0 true)
-    ack-asked a = by-verdict was-accepted ∙ rw a
-
-    pub ack-unasked : asksAck (g .field) ≡ false → steps p g ≡ sends [] [] (storedMode (g .field)) (Mode (g .time) 0 false)
-    ack-unasked a = by-verdict was-accepted ∙ rw a
-
-  -- what is declined stores nothing, and the phase is Initial
-  pub declined-stores-none : isMode (kindOf (steps p g .next)) ≡ false → (steps p g .stored ≡ []) × (steps p g .next ≡ Initial (g .time))
-  declined-stores-none e = rw (by-verdict refl) (declined (verdictOn g) (g .field) (g .time) (rw (by-verdict refl) at e))
+-- one with a parameter that is not named gets NAK(3)
+pub unnamed-nak-3 : (p : Phase) (g : Given) {h : Heard} → Passes p g h → actOn p g h ≡ Judge → (x : ℕ) → isIn x (standardHeard g) ≡ true → namedCode x ≡ false
+    → steps p g ≡ sends (0x2a ∷ []) [] [] (Initial (g .time))
+unnamed-nak-3 p g s j x i n =
+    let v = unnamed-code x (standardHeard g) (g .run) (tables-good (g .own) (g .run) (s .due .sound .tables) .wishes) i n in
+    follows p g s ∙ rw (j, v, nak-octet 3)
 
 -- ---- Mode is reached by a verdict or by agreement
-
--- the step judged an MS, or a proposal was agreed
-pub record Reaches (p : Phase) (g : Given) : Type 0 where
-  pub heard : Heard
-  pub passes : Passes p g heard
-  pub acts : (actOn p g heard ≡ Judge) ⊎ (actOn p g heard ≡ Agree)
 
 -- no other act leads there
 leads-mode : (a : Act) (found : Bool) (p : Phase) → isMode (kindOf p) ≡ false → isMode (leadsTo a found (kindOf p)) ≡ true → (a ≡ Judge) ⊎ (a ≡ Agree)
@@ -116,9 +101,9 @@ leads-mode SendNak1 found p n e = never e
 pub mode-reached : (p : Phase) (g : Given) → isMode (kindOf p) ≡ false → isMode (kindOf (steps p g .next)) ≡ true → Reaches p g
 mode-reached p g n =
     of-step (λ (o : Outcome). isMode (kindOf (o .next)) ≡ true → Reaches p g) p g
-    (λ e. never e) (λ t k e. never (sym n ∙ e)) (λ e. never e)
+    (λ e. never e) (λ k h e. never (sym n ∙ e)) (λ e. never e)
     (λ h s e. record { heard = h; passes = s; acts = leads-mode (actOn p g h) (finds (actOn p g h) g) p n (ap isMode (sym (act-leads (actOn p g h) p g)) ∙ e) })
 
 -- what is agreed is the wish that was proposed
-pub agreed-wish : (p : Phase) (g : Given) {h : Heard} → Passes p g h → actOn p g h ≡ Agree → steps p g ≡ quiet Done (Mode (g .time) (wishOf p) (ackOf p))
+pub agreed-wish : (p : Phase) (g : Given) {h : Heard} → Passes p g h → actOn p g h ≡ Agree → steps p g ≡ quiet 0 (Mode (g .time) (wishOf p) (ackOf p))
 agreed-wish p g s e = follows p g s ∙ rw e

@@ -1,31 +1,21 @@
 -- A step follows the table from every phase: which refusal comes before it, where each act leads, when a phase was entered, and that a
 -- transaction is over by its fourth acted-on event.
 -- Assumes nothing.
-use Prim.Native.Nat.{ℕ, _+_, _<_, _≤_}
-use mathlib.Core.Bool.{Bool, true, false}
+use Prim.Native.Nat.{ℕ, zero, suc, _+_, _<_, _≤_}
+use mathlib.Core.Bool.{Bool, true, false, not}
 use mathlib.Core.List.{List, [], _∷_, _++_}
-use mathlib.Core.Logic.{_⊎_, inl, inr}
 use mathlib.Core.Path.{_≡_, refl, sym, ap, subst, _∙_}
 use native.Mathlib.Omega.{arith}
 use borrow.Author.Tests.{ltb-true, ltb-false}
-use lib.Dec.{ltb}
-use lib.ListN.{length, take, drop}
+use lib.Dec.{eqb, ltb}
+use lib.ListN.{length}
 use Rattle.octets.specs.Bits.{num}
 use Rattle.octets.specs.Places.{pick}
-use Rattle.tree.specs.Fields.{codesIn}
-use Rattle.tree.specs.declared.Field.the-variants.{Standard}
-use Rattle.message.specs.Kinds.{revisionOf}
-use Rattle.message.specs.Reader.{standardAt}
-use Rattle.writer.specs.Writer.{messageOctets}
-use Rattle.choice.specs.Wishes.{wishesOf, goodWishes, standardCodes}
-use Rattle.choice.specs.Choosing.{Far, unheard, heard, choice}
+use Rattle.choice.specs.Wishes.{Wish, wishesOf, goodWishes, standardCodes}
+use Rattle.choice.specs.Choosing.{Far, unheard, heard, Choosing, chosen, refused, suits, firstSuiting, choice}
 use Rattle.choice.specs.Judging.{verdict}
 use Rattle.choice.specs.Tables.{goodOwn, allInside, tablesNo, tablesTold}
-use Rattle.choice.specs.declared.Choice.{Choice}
-use Rattle.choice.specs.declared.Choice.the-variants.{Chosen, NoChoice}
 use Rattle.choice.specs.declared.Pick.{Pick}
-use Rattle.choice.specs.declared.Verdict.{Verdict}
-use Rattle.choice.specs.declared.Verdict.the-variants.{Accepted, NotReady, NoFit}
 use Rattle.choice.specs.declared.Tables.{Tables}
 use Rattle.choice.specs.declared.Tables.the-variants as found
 use Rattle.choice.proofs.Truths.{never}
@@ -38,80 +28,28 @@ use Rattle.table.specs.declared.Act.{Act}
 use Rattle.table.specs.declared.Act.the-variants.{NoRow, SendMrE, SendMrD, CounterMrD, SendCrE, SendCrD, Propose, SendCl, SendClr, PairClr, Take, Judge, Agree, GiveUp, SendNak1}
 use Rattle.table.specs.declared.After.the-variants.{ThenMs, ThenClMs, ThenCl, ThenHalf}
 use Rattle.table.specs.declared.Settings.{Settings}
-use Rattle.table.specs.Phases.{kindOf, entryOf, ackOf}
-use Rattle.table.specs.Rows.{actOf}
-use Rattle.table.specs.Bound.{ifFound, leadsTo, isActed, isOver, Turn, GoesOn}
+use Rattle.table.specs.Phases.{kindOf, entryOf, ackOf, isOver}
+use Rattle.table.specs.Bound.{ifFound, leadsTo, isActed, Turn, GoesOn}
 use Rattle.table.proofs.FourEvents.{at-most-three}
 use Rattle.table.proofs.Lines.{each}
-use Rattle.station.specs.Sending.{sentRevision, offerCodes, sentField, sentAck, listOffer, sentList, noOffer, modeOffer, sentMode}
+use Rattle.station.specs.Sending.{sentList, noOffer}
 use Rattle.station.specs.Sorting.{Sort, known, strange, sortOf}
-use Rattle.station.specs.Acting.{Outcome, quiet, signals, sends, farList, farOffer, asksAck, storedList, proposes, proposesBehind, judges, does}
-use Rattle.station.specs.Stepping.{outputRoom, storeRoom, isMode, isLate, isReset, sorted, timed, checked, stepOf}
-use Rattle.station.specs.declared.Event.{Event}
+use Rattle.station.specs.Acting.{Outcome, quiet, stays, farList, farOffer, storedList, proposes, proposesBehind, judges}
+use Rattle.station.specs.Stepping.{isMode, isLate, isReset, sorted, timed, checked, stepOf}
 use Rattle.station.specs.declared.FarOffer.{FarOffer}
-use Rattle.station.specs.declared.Offer.{Offer}
-use Rattle.station.specs.declared.Sends.{Sends}
-use Rattle.station.specs.declared.Sends.the-variants.{NoSignal}
-use Rattle.station.specs.declared.Told.{Told}
-use Rattle.station.specs.declared.Told.the-variants.{Done, SmallBuffers, BadOwn, BadWishes, Outside, TimeBefore, TimedOut, UnknownType, NotInTable, NothingToPropose}
 use Rattle.station.proofs.Gating.{time-before, timed-out, in-mode, in-time, small-output, small-store, tables-checked, tabled}
+use Rattle.demands.specs.Given.{Given, steps, Sound, Due, Passes, actOn, doing, standardHeard, isActedOn, isKept, after, Lasts, actedOn}
 
--- ---- a step and what it is given
-
--- beside its phase: the settings, the own table, the wishes, the event with the field heard, the time, the sizes of output and store
-pub record Given : Type 0 where
-  pub set : Settings
-  pub own : List ℕ
-  pub run : List ℕ
-  pub event : Event
-  pub field : List ℕ
-  pub time : ℕ
-  pub outSize : ℕ
-  pub storeSize : ℕ
-
-abbrev pub steps : Phase → Given → Outcome
-steps p g = stepOf p (g .set) (g .own) (g .run) (g .event) (g .field) (g .time) (g .outSize) (g .storeSize)
-
--- the table's act on what was heard, and what an act does
-abbrev pub actOn : Phase → Given → Heard → Act
-actOn p g h = actOf (kindOf p) (g .set) (ackOf p) h
-
-abbrev pub doing : Act → Phase → Given → Outcome
-doing a p g = does a p (g .set) (g .own) (g .run) (g .field) (g .time)
-
--- the far list heard, the choice by a far list, and the verdict on the mode heard
-abbrev pub listHeard : Given → Far
-listHeard g = heard (farList (g .field))
-
-abbrev pub choiceBy : Far → Given → Choice
+-- the choice by a far list, and the verdict on the mode heard
+abbrev pub choiceBy : Far → Given → Choosing
 choiceBy far g = choice (standardCodes (g .own)) far (g .run)
 
-abbrev pub modeHeard : Given → List ℕ
-modeHeard g = codesIn Standard (g .field) (standardAt (g .field))
+abbrev pub verdictOn : Given → ℕ
+verdictOn g = verdict (standardHeard g) (wishesOf (g .run))
 
-abbrev pub verdictOn : Given → Verdict
-verdictOn g = verdict (modeHeard g) (wishesOf (g .run))
-
--- ---- the refusals before the table, in their order
-
--- it is no reset, and 1 to 4 do not refuse
-pub record Sound (g : Given) : Type 0 where
-  pub live : isReset (g .event) ≡ false
-  pub output : outputRoom ≤ g .outSize
-  pub store : storeRoom ≤ g .storeSize
-  pub tables : tablesNo (g .own) (g .run) ≡ 0
-
--- nor do 5 and 6, and the phase is not Mode
-pub record Due (p : Phase) (g : Given) : Type 0 where
-  pub sound : Sound g
-  pub after : entryOf p ≤ g .time
-  pub prompt : isLate (kindOf p) (entryOf p) (g .time) ≡ false
-  pub awake : isMode (kindOf p) ≡ false
-
--- and the event is something that the table knows
-pub record Passes (p : Phase) (g : Given) (h : Heard) : Type 0 where
-  pub due : Due p g
-  pub heard : sortOf (g .event) (g .field) ≡ known h
+-- the far list heard, as a step takes it
+abbrev pub farHeard : Given → Far
+farHeard g = heard (farList (g .field))
 
 -- Mode lasts
 mode-never-late : (k : Kind) (entry time : ℕ) → isMode k ≡ true → isLate k entry time ≡ false
@@ -121,7 +59,7 @@ mode-never-late k entry time =
 
 module _ (p : Phase) (g : Given) where
   -- a reset is not checked at all
-  pub reset-first : isReset (g .event) ≡ true → steps p g ≡ quiet Done (Initial (g .time))
+  pub reset-first : isReset (g .event) ≡ true → steps p g ≡ quiet 0 (Initial (g .time))
   unfolding stepOf
   reset-first r = rw r
 
@@ -131,24 +69,24 @@ module _ (p : Phase) (g : Given) where
   live-checked r = rw r
 
   -- 1: no room in the output, or in the store
-  pub refuses-1-output : isReset (g .event) ≡ false → g .outSize < outputRoom → steps p g ≡ quiet SmallBuffers p
+  pub refuses-1-output : isReset (g .event) ≡ false → g .outSize < 128 → steps p g ≡ quiet 1 p
   refuses-1-output r h = live-checked r ∙ small-output p (g .set) (g .own) (g .run) (g .event) (g .field) (g .time) (g .outSize) (g .storeSize) h
 
-  pub refuses-1-store : isReset (g .event) ≡ false → outputRoom ≤ g .outSize → g .storeSize < storeRoom → steps p g ≡ quiet SmallBuffers p
+  pub refuses-1-store : isReset (g .event) ≡ false → 128 ≤ g .outSize → g .storeSize < 64 → steps p g ≡ quiet 1 p
   refuses-1-store r h k = live-checked r ∙ small-store p (g .set) (g .own) (g .run) (g .event) (g .field) (g .time) (g .outSize) (g .storeSize) h k
 
-  module _ (live : isReset (g .event) ≡ false) (output : outputRoom ≤ g .outSize) (store : storeRoom ≤ g .storeSize) where
+  module _ (live : isReset (g .event) ≡ false) (output : 128 ≤ g .outSize) (store : 64 ≤ g .storeSize) where
     by-tables : (t : Tables) → tablesTold t ≡ tablesNo (g .own) (g .run) → steps p g ≡ tabled t p (timed p (g .set) (g .own) (g .run) (g .event) (g .field) (g .time))
     by-tables t e = live-checked live ∙ tables-checked p (g .set) (g .own) (g .run) (g .event) (g .field) (g .time) (g .outSize) (g .storeSize) output store t e
 
     -- 2, 3 and 4: the tables
-    pub refuses-2 : tablesNo (g .own) (g .run) ≡ 2 → steps p g ≡ quiet BadOwn p
+    pub refuses-2 : tablesNo (g .own) (g .run) ≡ 2 → steps p g ≡ quiet 2 p
     refuses-2 e = by-tables found.BadOwn (sym e)
 
-    pub refuses-3 : tablesNo (g .own) (g .run) ≡ 3 → steps p g ≡ quiet BadWishes p
+    pub refuses-3 : tablesNo (g .own) (g .run) ≡ 3 → steps p g ≡ quiet 3 p
     refuses-3 e = by-tables found.BadWishes (sym e)
 
-    pub refuses-4 : tablesNo (g .own) (g .run) ≡ 4 → steps p g ≡ quiet Outside p
+    pub refuses-4 : tablesNo (g .own) (g .run) ≡ 4 → steps p g ≡ quiet 4 p
     refuses-4 e = by-tables found.Outside (sym e)
 
   module _ (s : Sound g) where
@@ -156,15 +94,15 @@ module _ (p : Phase) (g : Given) where
     by-time = by-tables (s .live) (s .output) (s .store) found.Good (sym (s .tables))
 
     -- 5: before the phase was entered
-    pub refuses-5 : g .time < entryOf p → steps p g ≡ quiet TimeBefore p
+    pub refuses-5 : g .time < entryOf p → steps p g ≡ quiet 5 p
     refuses-5 h = by-time ∙ time-before p (g .set) (g .own) (g .run) (g .event) (g .field) (g .time) h
 
     -- 6: too late
-    pub refuses-6 : entryOf p ≤ g .time → isLate (kindOf p) (entryOf p) (g .time) ≡ true → steps p g ≡ quiet TimedOut (Initial (g .time))
+    pub refuses-6 : entryOf p ≤ g .time → isLate (kindOf p) (entryOf p) (g .time) ≡ true → steps p g ≡ quiet 6 (Initial (g .time))
     refuses-6 h l = by-time ∙ timed-out p (g .set) (g .own) (g .run) (g .event) (g .field) (g .time) h l
 
     -- 10 in Mode, whatever the event
-    pub refuses-10-mode : entryOf p ≤ g .time → isMode (kindOf p) ≡ true → steps p g ≡ quiet NotInTable p
+    pub refuses-10-mode : entryOf p ≤ g .time → isMode (kindOf p) ≡ true → steps p g ≡ quiet 10 p
     refuses-10-mode h o =
         by-time ∙ in-mode p (g .set) (g .own) (g .run) (g .event) (g .field) (g .time) h (mode-never-late (kindOf p) (entryOf p) (g .time) o) o
 
@@ -172,7 +110,7 @@ module _ (p : Phase) (g : Given) where
   by-sort d = by-time (d .sound) ∙ in-time p (g .set) (g .own) (g .run) (g .event) (g .field) (g .time) (d .after) (d .prompt) (d .awake)
 
   -- 9: a message of unknown type
-  pub refuses-9 : Due p g → sortOf (g .event) (g .field) ≡ strange → steps p g ≡ quiet UnknownType p
+  pub refuses-9 : Due p g → sortOf (g .event) (g .field) ≡ strange → steps p g ≡ quiet 9 p
   refuses-9 d e = by-sort d ∙ rw e
 
   -- from every phase the step follows the table
@@ -180,53 +118,17 @@ module _ (p : Phase) (g : Given) where
   follows s = by-sort (s .due) ∙ rw (s .heard)
 
   -- 10: not in the table
-  pub refuses-10 : {h : Heard} → Passes p g h → actOn p g h ≡ NoRow → steps p g ≡ quiet NotInTable p
+  pub refuses-10 : {h : Heard} → Passes p g h → actOn p g h ≡ NoRow → steps p g ≡ quiet 10 p
   refuses-10 s e = follows s ∙ rw e
 
 -- ---- what an outcome can be
 
--- what is told leaves the phase: every refusal but 6 and 11
-abbrev pub isKept : Told → Bool
-isKept Done = false
-isKept SmallBuffers = true
-isKept BadOwn = true
-isKept BadWishes = true
-isKept Outside = true
-isKept TimeBefore = true
-isKept TimedOut = false
-isKept UnknownType = true
-isKept NotInTable = true
-isKept NothingToPropose = false
-
--- what is told of an event that was acted on: success, or 11
-abbrev pub isActedOn : Told → Bool
-isActedOn Done = true
-isActedOn SmallBuffers = false
-isActedOn BadOwn = false
-isActedOn BadWishes = false
-isActedOn Outside = false
-isActedOn TimeBefore = false
-isActedOn TimedOut = false
-isActedOn UnknownType = false
-isActedOn NotInTable = false
-isActedOn NothingToPropose = true
-
--- the outcome of 11
-abbrev pub nothing : List ℕ → ℕ → Outcome
-nothing stored time = record { told = NothingToPropose; signal = NoSignal; first = []; second = []; stored = stored; next = Initial time }
-
--- a field that is sent: of revision 2, or none
-abbrev pub Sent : List ℕ → Type 0
-Sent l = (l ≡ []) ⊎ (revisionOf l ≡ sentRevision)
-
--- success: the phase is entered now, and what is sent is of revision 2
+-- success: the phase is entered now
 pub record Success (o : Outcome) (time : ℕ) : Type 0 where
-  pub told : o .told ≡ Done
+  pub told : o .told ≡ 0
   pub entry : entryOf (o .next) ≡ time
-  pub first : Sent (o .first)
-  pub second : Sent (o .second)
 
-by-test : {A : Type 0} (t : Bool) → (t ≡ true → A) → (t ≡ false → A) → A
+pub by-test : {A : Type 0} (t : Bool) → (t ≡ true → A) → (t ≡ false → A) → A
 by-test true f g = f refl
 by-test false f g = g refl
 
@@ -238,113 +140,103 @@ told-cases own run good own-bad wishes-bad outside =
     (λ a. by-test (goodWishes run) (λ b. by-test (allInside own (wishesOf run)) (λ c. good (rw (a, b, c))) (λ c. outside (rw (a, b, c)))) (λ b. wishes-bad (rw (a, b))))
     (λ a. own-bad (rw a))
 
--- octet 1 of a message of a type below 16
-written-sent : (kind : ℕ) (codes : List ℕ) → kind < 16 → Sent (messageOctets kind sentRevision codes [])
-unfolding messageOctets
-written-sent kind codes h = inr (omega arith)
+-- a choice is a wish, or 11
+pub data Settled : Choosing → Type 0 where
+  one : (p : Pick) → Settled (chosen p)
+  eleven : Settled (refused 11)
 
-field-sent : (kind : ℕ) (offer : Offer) (codes : List ℕ) → kind < 16 → Sent (sentField kind offer codes)
-unfolding sentField
-field-sent kind offer codes h = written-sent kind (offerCodes offer ++ codes) h
+settled-among : (own : List ℕ) (far : Far) (ws : List Wish) (n at : ℕ) → Settled (firstSuiting own far ws n at)
+unfolding firstSuiting
+settled-among own far [] n at = eleven
+settled-among own far (w ∷ ws) n at = go (suits own far w) (settled-among own far ws (n + 1) (at + 2 + length (w .field)))
+  where
+    go : (t : Bool) {rest : Choosing} → Settled rest → Settled (pick t (chosen (record { number = n + 1; at = at + 2; length = length (w .field) })) rest)
+    go true x = one _
+    go false x = x
 
-list-sent : (kind : ℕ) (set : Settings) (own : List ℕ) → kind < 16 → Sent (sentList kind set own)
-unfolding sentList
-list-sent kind set own h = field-sent kind (listOffer set) (standardCodes own) h
-
-mode-sent : (set : Settings) (far : FarOffer) (run : List ℕ) (p : Pick) → Sent (sentMode set far run p)
-unfolding sentMode
-mode-sent set far run p = field-sent 1 (modeOffer set far) (standardCodes (take (p .length) (drop (p .at) run))) (omega arith)
-
-ack-sent : (asked : Bool) → Sent (pick asked sentAck [])
-ack-sent true = written-sent 4 [] (omega arith)
-ack-sent false = inl refl
+pub settled : (far : Far) (g : Given) → Settled (choiceBy far g)
+unfolding choice
+settled far g = settled-among (standardCodes (g .own)) far (wishesOf (g .run)) 0 0
 
 -- what holds of 11 and of every success holds of what a choice or a verdict leads to
-module _ (P : Outcome → Type 0) (time : ℕ) (none : (stored : List ℕ) → P (nothing stored time)) (done : (o : Outcome) → Success o time → P o) where
-  quiet-done : (q : Phase) → entryOf q ≡ time → P (quiet Done q)
-  quiet-done q e = done (quiet Done q) (record { told = refl; entry = e; first = inl refl; second = inl refl })
+module _ (P : Outcome → Type 0) (time : ℕ) (none : (stored : List ℕ) → P (stays 11 stored time)) (done : (o : Outcome) → Success o time → P o) where
+  ends-now : (o : Outcome) → o .told ≡ 0 → entryOf (o .next) ≡ time → P o
+  ends-now o t e = done o (record { told = t; entry = e })
 
-  signal-done : (s : Sends) (q : Phase) → entryOf q ≡ time → P (signals s q)
-  signal-done s q e = done (signals s q) (record { told = refl; entry = e; first = inl refl; second = inl refl })
+  of-proposal : {c : Choosing} → Settled c → (set : Settings) (far : FarOffer) (run stored : List ℕ) → P (proposes c set far run stored time)
+  of-proposal (one p) set far run stored = ends-now _ refl refl
+  of-proposal eleven set far run stored = none stored
 
-  sent-done : (first second stored : List ℕ) (q : Phase) → Sent first → Sent second → entryOf q ≡ time → P (sends first second stored q)
-  sent-done first second stored q x y e = done (sends first second stored q) (record { told = refl; entry = e; first = x; second = y })
+  of-second : (list : List ℕ) {c : Choosing} → Settled c → (set : Settings) (far : FarOffer) (run stored : List ℕ) → P (proposesBehind list c set far run stored time)
+  of-second list (one p) set far run stored = ends-now _ refl refl
+  of-second list eleven set far run stored = none stored
 
-  of-proposal : (c : Choice) (set : Settings) (far : FarOffer) (run stored : List ℕ) → P (proposes c set far run stored time)
-  of-proposal (Chosen p) set far run stored = sent-done _ _ _ _ (mode-sent set far run p) (inl refl) refl
-  of-proposal NoChoice set far run stored = none stored
-
-  of-second : (list : List ℕ) → Sent list → (c : Choice) (set : Settings) (far : FarOffer) (run stored : List ℕ) → P (proposesBehind list c set far run stored time)
-  of-second list x (Chosen p) set far run stored = sent-done _ _ _ _ x (mode-sent set far run p) refl
-  of-second list x NoChoice set far run stored = none stored
-
-  of-verdict : (v : Verdict) (m : List ℕ) → P (judges v m time)
-  of-verdict Accepted m = sent-done _ _ _ _ (ack-sent (asksAck m)) (inl refl) refl
-  of-verdict NotReady m = sent-done _ _ _ _ (written-sent 9 [] (omega arith)) (inl refl) refl
-  of-verdict NoFit m = sent-done _ _ _ _ (written-sent 10 [] (omega arith)) (inl refl) refl
+  of-verdict : (v : ℕ) (m : List ℕ) → P (judges v m time)
+  of-verdict zero m = ends-now _ refl refl
+  of-verdict (suc k) m = ends-now _ refl refl
 
 -- and with refusal 10, of what every act does
-of-act : (P : Outcome → Type 0) (p : Phase) (g : Given) → P (quiet NotInTable p) → ((stored : List ℕ) → P (nothing stored (g .time)))
+of-act : (P : Outcome → Type 0) (p : Phase) (g : Given) → P (quiet 10 p) → ((stored : List ℕ) → P (stays 11 stored (g .time)))
     → ((o : Outcome) → Success o (g .time) → P o) → (a : Act) → P (doing a p g)
 of-act P p g row none done NoRow = row
-of-act P p g row none done SendMrE = signal-done P (g .time) none done _ _ refl
-of-act P p g row none done SendMrD = signal-done P (g .time) none done _ _ refl
-of-act P p g row none done CounterMrD = signal-done P (g .time) none done _ _ refl
-of-act P p g row none done SendCrE = signal-done P (g .time) none done _ _ refl
-of-act P p g row none done SendCrD = signal-done P (g .time) none done _ _ refl
-of-act P p g row none done Propose = of-proposal P (g .time) none done (choiceBy unheard g) (g .set) noOffer (g .run) []
-of-act P p g row none done SendCl = sent-done P (g .time) none done _ _ _ _ (list-sent 2 (g .set) (g .own) (omega arith)) (inl refl) refl
-of-act P p g row none done SendClr = sent-done P (g .time) none done _ _ _ _ (list-sent 3 (g .set) (g .own) (omega arith)) (inl refl) refl
-of-act P p g row none done PairClr = sent-done P (g .time) none done _ _ _ _ (list-sent 3 (g .set) (g .own) (omega arith)) (inl refl) refl
-of-act P p g row none done (Take ThenMs) = of-proposal P (g .time) none done (choiceBy (listHeard g) g) (g .set) (farOffer (g .field)) (g .run) (storedList (g .field))
+of-act P p g row none done SendMrE = ends-now P (g .time) none done _ refl refl
+of-act P p g row none done SendMrD = ends-now P (g .time) none done _ refl refl
+of-act P p g row none done CounterMrD = ends-now P (g .time) none done _ refl refl
+of-act P p g row none done SendCrE = ends-now P (g .time) none done _ refl refl
+of-act P p g row none done SendCrD = ends-now P (g .time) none done _ refl refl
+of-act P p g row none done Propose = of-proposal P (g .time) none done (settled unheard g) (g .set) noOffer (g .run) []
+of-act P p g row none done SendCl = ends-now P (g .time) none done _ refl refl
+of-act P p g row none done SendClr = ends-now P (g .time) none done _ refl refl
+of-act P p g row none done PairClr = ends-now P (g .time) none done _ refl refl
+of-act P p g row none done (Take ThenMs) = of-proposal P (g .time) none done (settled (farHeard g) g) (g .set) (farOffer (g .field)) (g .run) (storedList (g .field))
 of-act P p g row none done (Take ThenClMs) =
-    of-second P (g .time) none done (sentList 2 (g .set) (g .own)) (list-sent 2 (g .set) (g .own) (omega arith)) (choiceBy (listHeard g) g) (g .set) (farOffer (g .field)) (g .run) (storedList (g .field))
-of-act P p g row none done (Take ThenCl) = sent-done P (g .time) none done _ _ _ _ (list-sent 2 (g .set) (g .own) (omega arith)) (inl refl) refl
-of-act P p g row none done (Take ThenHalf) = sent-done P (g .time) none done _ _ _ _ (inl refl) (inl refl) refl
+    of-second P (g .time) none done (sentList 2 (g .set) (g .own)) (settled (farHeard g) g) (g .set) (farOffer (g .field)) (g .run) (storedList (g .field))
+of-act P p g row none done (Take ThenCl) = ends-now P (g .time) none done _ refl refl
+of-act P p g row none done (Take ThenHalf) = ends-now P (g .time) none done _ refl refl
 of-act P p g row none done Judge = of-verdict P (g .time) none done (verdictOn g) (g .field)
-of-act P p g row none done Agree = quiet-done P (g .time) none done _ refl
-of-act P p g row none done GiveUp = quiet-done P (g .time) none done _ refl
-of-act P p g row none done SendNak1 = sent-done P (g .time) none done _ _ _ _ (written-sent 8 [] (omega arith)) (inl refl) refl
+of-act P p g row none done Agree = ends-now P (g .time) none done _ refl refl
+of-act P p g row none done GiveUp = ends-now P (g .time) none done _ refl refl
+of-act P p g row none done SendNak1 = ends-now P (g .time) none done _ refl refl
 
 -- what holds of a reset, of refusals that leave the phase, of 6, and of what the table does holds of the step
 module _ (P : Outcome → Type 0) (p : Phase) (g : Given) where
-  pub of-step : P (quiet Done (Initial (g .time))) → ((t : Told) → isKept t ≡ true → P (quiet t p)) → P (quiet TimedOut (Initial (g .time)))
+  pub of-step : P (quiet 0 (Initial (g .time))) → ((n : ℕ) → isKept n ≡ true → P (quiet n p)) → P (quiet 6 (Initial (g .time)))
       → ((h : Heard) → Passes p g h → P (doing (actOn p g h) p g)) → P (steps p g)
   of-step reset kept late act =
       by-test (isReset (g .event)) (λ r. is (reset-first p g r) reset)
-      (λ live. by-test (ltb (g .outSize) outputRoom) (λ h. is (refuses-1-output p g live (ltb-true (g .outSize) outputRoom h)) (kept SmallBuffers refl))
-      (λ o. let output : outputRoom ≤ g .outSize = ltb-false (g .outSize) outputRoom o in
-      by-test (ltb (g .storeSize) storeRoom) (λ h. is (refuses-1-store p g live output (ltb-true (g .storeSize) storeRoom h)) (kept SmallBuffers refl))
-      (λ s. tables live output (ltb-false (g .storeSize) storeRoom s))))
+      (λ live. by-test (ltb (g .outSize) 128) (λ h. is (refuses-1-output p g live (ltb-true (g .outSize) 128 h)) (kept 1 refl))
+      (λ o. let output : 128 ≤ g .outSize = ltb-false (g .outSize) 128 o in
+      by-test (ltb (g .storeSize) 64) (λ h. is (refuses-1-store p g live output (ltb-true (g .storeSize) 64 h)) (kept 1 refl))
+      (λ s. tables live output (ltb-false (g .storeSize) 64 s))))
     where
       is : {o : Outcome} → steps p g ≡ o → P o → P (steps p g)
       is e x = subst P (sym e) x
 
       sort : Due p g → (s : Sort) → sortOf (g .event) (g .field) ≡ s → P (steps p g)
       sort d (known h) e = let s : Passes p g h = record { due = d; heard = e } in is (follows p g s) (act h s)
-      sort d strange e = is (refuses-9 p g d e) (kept UnknownType refl)
+      sort d strange e = is (refuses-9 p g d e) (kept 9 refl)
 
       clock : Sound g → P (steps p g)
       clock s =
-          by-test (ltb (g .time) (entryOf p)) (λ h. is (refuses-5 p g s (ltb-true (g .time) (entryOf p) h)) (kept TimeBefore refl))
+          by-test (ltb (g .time) (entryOf p)) (λ h. is (refuses-5 p g s (ltb-true (g .time) (entryOf p) h)) (kept 5 refl))
           (λ h. let after : entryOf p ≤ g .time = ltb-false (g .time) (entryOf p) h in
           by-test (isLate (kindOf p) (entryOf p) (g .time)) (λ l. is (refuses-6 p g s after l) late)
-          (λ l. by-test (isMode (kindOf p)) (λ o. is (refuses-10-mode p g s after o) (kept NotInTable refl))
+          (λ l. by-test (isMode (kindOf p)) (λ o. is (refuses-10-mode p g s after o) (kept 10 refl))
           (λ o. sort (record { sound = s; after = after; prompt = l; awake = o }) (sortOf (g .event) (g .field)) refl)))
 
-      tables : isReset (g .event) ≡ false → outputRoom ≤ g .outSize → storeRoom ≤ g .storeSize → P (steps p g)
+      tables : isReset (g .event) ≡ false → 128 ≤ g .outSize → 64 ≤ g .storeSize → P (steps p g)
       tables live output store =
           told-cases (g .own) (g .run)
           (λ e. clock (record { live = live; output = output; store = store; tables = e }))
-          (λ e. is (refuses-2 p g live output store e) (kept BadOwn refl))
-          (λ e. is (refuses-3 p g live output store e) (kept BadWishes refl))
-          (λ e. is (refuses-4 p g live output store e) (kept Outside refl))
+          (λ e. is (refuses-2 p g live output store e) (kept 2 refl))
+          (λ e. is (refuses-3 p g live output store e) (kept 3 refl))
+          (λ e. is (refuses-4 p g live output store e) (kept 4 refl))
 
   -- so of every outcome, if it holds of what leaves the phase, of 6, of 11 and of every success
-  pub of-outcome : ((t : Told) → isKept t ≡ true → P (quiet t p)) → P (quiet TimedOut (Initial (g .time))) → ((stored : List ℕ) → P (nothing stored (g .time)))
+  pub of-outcome : ((n : ℕ) → isKept n ≡ true → P (quiet n p)) → P (quiet 6 (Initial (g .time))) → ((stored : List ℕ) → P (stays 11 stored (g .time)))
       → ((o : Outcome) → Success o (g .time) → P o) → P (steps p g)
   of-outcome kept late none done =
-      of-step (quiet-done P (g .time) none done (Initial (g .time)) refl) kept late (λ h s. of-act P p g (kept NotInTable refl) none done (actOn p g h))
+      of-step (ends-now P (g .time) none done _ refl refl) kept late (λ h s. of-act P p g (kept 10 refl) none done (actOn p g h))
 
 -- ---- the time of entry
 
@@ -363,14 +255,13 @@ module _ (p : Phase) (g : Given) where
 
 -- ---- where an act leads
 
-abbrev pub isChosen : Choice → Bool
-isChosen (Chosen p) = true
-isChosen NoChoice = false
+abbrev pub isChosen : Choosing → Bool
+isChosen (chosen p) = true
+isChosen (refused n) = false
 
-abbrev pub isAccepted : Verdict → Bool
-isAccepted Accepted = true
-isAccepted NotReady = false
-isAccepted NoFit = false
+abbrev pub isAccepted : ℕ → Bool
+isAccepted zero = true
+isAccepted (suc k) = false
 
 -- what an act finds, where it looks for something: a choice, or that the mode is accepted
 abbrev pub finds : Act → Given → Bool
@@ -384,26 +275,25 @@ finds Propose g = isChosen (choiceBy unheard g)
 finds SendCl g = false
 finds SendClr g = false
 finds PairClr g = false
-finds (Take after) g = isChosen (choiceBy (listHeard g) g)
+finds (Take after) g = isChosen (choiceBy (farHeard g) g)
 finds Judge g = isAccepted (verdictOn g)
 finds Agree g = false
 finds GiveUp g = false
 finds SendNak1 g = false
 
-proposal-leads : (c : Choice) (set : Settings) (far : FarOffer) (run stored : List ℕ) (time : ℕ)
+proposal-leads : (c : Choosing) (set : Settings) (far : FarOffer) (run stored : List ℕ) (time : ℕ)
     → kindOf (proposes c set far run stored time .next) ≡ ifFound (isChosen c) AtProposed AtInitial
-proposal-leads (Chosen p) set far run stored time = refl
-proposal-leads NoChoice set far run stored time = refl
+proposal-leads (chosen p) set far run stored time = refl
+proposal-leads (refused n) set far run stored time = refl
 
-second-leads : (list : List ℕ) (c : Choice) (set : Settings) (far : FarOffer) (run stored : List ℕ) (time : ℕ)
+second-leads : (list : List ℕ) (c : Choosing) (set : Settings) (far : FarOffer) (run stored : List ℕ) (time : ℕ)
     → kindOf (proposesBehind list c set far run stored time .next) ≡ ifFound (isChosen c) AtProposed AtInitial
-second-leads list (Chosen p) set far run stored time = refl
-second-leads list NoChoice set far run stored time = refl
+second-leads list (chosen p) set far run stored time = refl
+second-leads list (refused n) set far run stored time = refl
 
-verdict-leads : (v : Verdict) (m : List ℕ) (time : ℕ) → kindOf (judges v m time .next) ≡ ifFound (isAccepted v) AtMode AtInitial
-verdict-leads Accepted m time = refl
-verdict-leads NotReady m time = refl
-verdict-leads NoFit m time = refl
+verdict-leads : (v : ℕ) (m : List ℕ) (time : ℕ) → kindOf (judges v m time .next) ≡ ifFound (isAccepted v) AtMode AtInitial
+verdict-leads zero m time = refl
+verdict-leads (suc k) m time = refl
 
 -- each act leads where the table's bound says
 pub act-leads : (a : Act) (p : Phase) (g : Given) → kindOf (doing a p g .next) ≡ leadsTo a (finds a g) (kindOf p)
@@ -417,9 +307,9 @@ act-leads Propose p g = proposal-leads (choiceBy unheard g) (g .set) noOffer (g 
 act-leads SendCl p g = refl
 act-leads SendClr p g = refl
 act-leads PairClr p g = refl
-act-leads (Take ThenMs) p g = proposal-leads (choiceBy (listHeard g) g) (g .set) (farOffer (g .field)) (g .run) (storedList (g .field)) (g .time)
+act-leads (Take ThenMs) p g = proposal-leads (choiceBy (farHeard g) g) (g .set) (farOffer (g .field)) (g .run) (storedList (g .field)) (g .time)
 act-leads (Take ThenClMs) p g =
-    second-leads (sentList 2 (g .set) (g .own)) (choiceBy (listHeard g) g) (g .set) (farOffer (g .field)) (g .run) (storedList (g .field)) (g .time)
+    second-leads (sentList 2 (g .set) (g .own)) (choiceBy (farHeard g) g) (g .set) (farOffer (g .field)) (g .run) (storedList (g .field)) (g .time)
 act-leads (Take ThenCl) p g = refl
 act-leads (Take ThenHalf) p g = refl
 act-leads Judge p g = verdict-leads (verdictOn g) (g .field) (g .time)
@@ -448,13 +338,13 @@ act-told SendMrD p g = refl
 act-told CounterMrD p g = refl
 act-told SendCrE p g = refl
 act-told SendCrD p g = refl
-act-told Propose p g = of-proposal Counts (g .time) (λ _. refl) (success-counts (g .time)) (choiceBy unheard g) (g .set) noOffer (g .run) []
+act-told Propose p g = of-proposal Counts (g .time) (λ _. refl) (success-counts (g .time)) (settled unheard g) (g .set) noOffer (g .run) []
 act-told SendCl p g = refl
 act-told SendClr p g = refl
 act-told PairClr p g = refl
-act-told (Take ThenMs) p g = of-proposal Counts (g .time) (λ _. refl) (success-counts (g .time)) (choiceBy (listHeard g) g) (g .set) (farOffer (g .field)) (g .run) (storedList (g .field))
+act-told (Take ThenMs) p g = of-proposal Counts (g .time) (λ _. refl) (success-counts (g .time)) (settled (farHeard g) g) (g .set) (farOffer (g .field)) (g .run) (storedList (g .field))
 act-told (Take ThenClMs) p g =
-    of-second Counts (g .time) (λ _. refl) (success-counts (g .time)) (sentList 2 (g .set) (g .own)) (list-sent 2 (g .set) (g .own) (omega arith)) (choiceBy (listHeard g) g) (g .set) (farOffer (g .field)) (g .run) (storedList (g .field))
+    of-second Counts (g .time) (λ _. refl) (success-counts (g .time)) (sentList 2 (g .set) (g .own)) (settled (farHeard g) g) (g .set) (farOffer (g .field)) (g .run) (storedList (g .field))
 act-told (Take ThenCl) p g = refl
 act-told (Take ThenHalf) p g = refl
 act-told Judge p g = of-verdict Counts (g .time) (λ _. refl) (success-counts (g .time)) (verdictOn g) (g .field)
@@ -481,32 +371,14 @@ idle-stays GiveUp found k e = never (sym e)
 idle-stays SendNak1 found k e = never (sym e)
 
 -- a refusal that leaves the phase is none of an event that was acted on
-pub kept-idle : (t : Told) → isKept t ≡ true → isActedOn t ≡ false
-kept-idle Done e = sym e
-kept-idle SmallBuffers e = refl
-kept-idle BadOwn e = refl
-kept-idle BadWishes e = refl
-kept-idle Outside e = refl
-kept-idle TimeBefore e = refl
-kept-idle TimedOut e = refl
-kept-idle UnknownType e = refl
-kept-idle NotInTable e = refl
-kept-idle NothingToPropose e = sym e
-
--- the phase after steps, one after the other
-unfoldable pub after : Phase → List Given → Phase
-after p [] = p
-after p (g ∷ gs) = after (steps p g .next) gs
-
--- no step of them leads to Initial or Mode
-unfoldable pub Lasts : Phase → List Given → Type 0
-Lasts p [] = Unit {0}
-Lasts p (g ∷ gs) = (isOver (kindOf (steps p g .next)) ≡ false) × Lasts (steps p g .next) gs
-
--- how many of their events are acted on
-unfoldable pub actedOn : Phase → List Given → ℕ
-actedOn p [] = 0
-actedOn p (g ∷ gs) = num (isActedOn (steps p g .told)) + actedOn (steps p g .next) gs
+pub kept-idle : (n : ℕ) → isKept n ≡ true → isActedOn n ≡ false
+kept-idle n = go (eqb n 0) (eqb n 6) (eqb n 11)
+  where
+    go : (a b c : Bool) → pick a false (pick b false (not c)) ≡ true → pick a true c ≡ false
+    go true b c e = never e
+    go false true c e = never e
+    go false false true e = never e
+    go false false false e = refl
 
 -- so many events that the table acts on, none of which ends the transaction
 record Turns (k : Kind) (n : ℕ) : Type 0 where
@@ -536,7 +408,7 @@ step-turn p g n =
     of-step
     (λ (o : Outcome). isOver (kindOf (o .next)) ≡ false → Turns (kindOf (o .next)) n → Turns (kindOf p) (num (isActedOn (o .told)) + n)) p g
     (λ e t. never (sym e))
-    (λ told k e t. record { turns = t .turns; goes = t .goes; count = omega (arith, t .count, ap num (kept-idle told k)) })
+    (λ n k e t. record { turns = t .turns; goes = t .goes; count = omega (arith, t .count, ap num (kept-idle n k)) })
     (λ e t. never (sym e))
     (λ h s e t. rw (act-told (actOn p g h) p g) (act-turn p g h n e t))
 

@@ -1,7 +1,11 @@
 pub mod Following
+pub mod SentFields
 pub mod Proposing
 pub mod Accepting
 pub mod StepLines
+pub mod CellsProved
+pub mod CallsProved
+pub mod FieldsSent
 pub mod StationBench
 pub mod StruckSteps
 pub mod Revisions

@@ -1,28 +1,26 @@
--- What is proposed: the first wish that is ready, among the common ones where a list was heard; 11 where there is none; and what its MS says.
+-- What a step proposes: the first wish that is ready, among the common ones where a list was heard; 11 where there is none; and what its
+-- MS says.
 -- Assumes nothing.
-use Prim.Native.Nat.{ℕ, _+_, _*_}
+use Prim.Native.Nat.{ℕ, zero, suc, _≤_}
 use mathlib.Core.Bool.{Bool, true, false, not}
-use mathlib.Core.List.{List, [], _∷_, List·Memᴰ}
-use mathlib.Core.Logic.{_⊎_, inl, inr, ⊎-elim}
+use mathlib.Core.List.{List, [], _∷_, _++_}
+use mathlib.Core.Logic.{_⊎_, inl, inr, ⊎-elim, _↔_}
 use mathlib.Core.Path.{_≡_, refl, sym, ap, _∙_}
 use native.Mathlib.Omega.{arith}
-use lib.ListN.{take, drop}
-use Rattle.octets.specs.Bits.{num, AreOctets}
-use Rattle.tree.specs.Fields.{allIn}
+use Rattle.octets.specs.Bits.{AreOctets}
+use Rattle.tree.specs.Codes.{codeOf, fieldBase}
+use Rattle.tree.specs.Fields.{isIn, allIn}
+use Rattle.message.specs.Reader.{messageCodes}
 use Rattle.writer.specs.Minimal.{both}
 use Rattle.good.specs.Good.{goodField}
 use Rattle.choice.specs.Wishes.{Wish, wishesOf, standardCodes, wishCodes}
-use Rattle.choice.specs.Choosing.{Far, unheard, heard, suits}
-use Rattle.choice.specs.declared.Choice.{Choice}
-use Rattle.choice.specs.declared.Choice.the-variants.{Chosen, NoChoice}
+use Rattle.choice.specs.Choosing.{Far, unheard, heard, Choosing, chosen, refused, suits, First}
 use Rattle.choice.specs.declared.Pick.{Pick}
-use Rattle.choice.specs.declared.Verdict.{Verdict}
-use Rattle.choice.specs.declared.Verdict.the-variants.{Accepted, NotReady, NoFit}
-use Rattle.choice.proofs.Chosen.{First, chosen-first, first-member, first-is-ready, no-choice}
+use Rattle.choice.proofs.Chosen.{chosen-first, first-member, no-choice}
 use Rattle.choice.proofs.Tabled.{tables-good}
 use Rattle.choice.proofs.Truths.{never, both-parts, both-false}
 use Rattle.table.specs.declared.Phase.{Phase}
-use Rattle.table.specs.declared.Phase.the-variants.{Initial, Proposed}
+use Rattle.table.specs.declared.Phase.the-variants.{Initial}
 use Rattle.table.specs.declared.Kind.{Kind}
 use Rattle.table.specs.declared.Kind.the-variants.{AtProposed}
 use Rattle.table.specs.declared.Heard.{Heard}
@@ -31,144 +29,189 @@ use Rattle.table.specs.declared.Act.the-variants.{NoRow, SendMrE, SendMrD, Coun
 use Rattle.table.specs.declared.After.the-variants.{ThenMs, ThenClMs, ThenCl, ThenHalf}
 use Rattle.table.specs.declared.Settings.{Settings}
 use Rattle.table.specs.Phases.{kindOf}
-use Rattle.table.proofs.Lines.{isAmong}
+use Rattle.table.specs.Among.{isAmong}
 use Rattle.station.specs.Sending.{sentList, noOffer, modeOffer, sentMode}
-use Rattle.station.specs.Acting.{Outcome, quiet, farOffer, storedList, proposes, proposesBehind, judges}
-use Rattle.station.specs.Stepping.{toldNo}
+use Rattle.station.specs.Acting.{Outcome, quiet, sends, stays, farList, farOffer, storedList, proposes, proposesBehind, judges}
 use Rattle.station.specs.declared.FarOffer.{FarOffer}
-use Rattle.station.specs.declared.Told.the-variants.{Done, TimedOut, NothingToPropose}
-use Rattle.station.proofs.Sendings.{sent-octets, part-octets}
-use Rattle.demands.proofs.Following.{Given, steps, actOn, doing, listHeard, choiceBy, verdictOn, Sound, Passes, follows, isActedOn, kept-idle, Sent, of-step, of-outcome}
+use Rattle.demands.specs.Given.{Given, steps, InOctets, Sound, Passes, actOn, doing, isActedOn}
+use Rattle.demands.specs.Sent.{says, IsSent, IsCl, IsClr, IsMs, farSays, bothShort, bothEight, listNamed}
+use Rattle.demands.specs.Proposals.{Proposal, proposedBy, NoneSuits, SendsMs, ms-first, ms-none, SendsClMs, cl-ms-first, cl-ms-none, SendsMode, Proposing, at-once, on-list, behind-list, Proposes}
+use Rattle.demands.proofs.Following.{choiceBy, verdictOn, farHeard, Settled, one, eleven, settled, follows, kept-idle, of-step}
+use Rattle.demands.proofs.SentFields.{all-offers, list-is-sent, mode-is-sent, standard-high}
+
+-- ---- what is proposed
+
+-- with no far list an MS says neither V.8 nor Short V.8
+offers-none : (set : Settings) → (modeOffer set noOffer .eight ≡ false) × (modeOffer set noOffer .short ≡ false)
+offers-none set = (rw (both-false (set .eight)) (both-false (not (both (set .short) false))), both-false (set .short))
+
+-- what the far side offers, as its list says it
+abbrev offerBy : Far → Given → FarOffer
+offerBy unheard g = noOffer
+offerBy (heard list) g = farOffer (g .field)
+
+module _ (g : Given) (tables : Sound g) (octets : InOctets g) where
+  -- the own table and each wish are good
+  wish-good : {far : Far} {p : Pick} (f : First (standardCodes (g .own)) far (g .run) p) → goodField (f .wish .field) ≡ true
+  wish-good f = tables-good (g .own) (g .run) (tables .tables) .field (f .wish) (first-member f)
+
+  own-good : goodField (g .own) ≡ true
+  own-good = tables-good (g .own) (g .run) (tables .tables) .table
+
+  pub cl-is-sent : IsCl g (sentList 2 (g .set) (g .own))
+  cl-is-sent = list-is-sent 2 (g .set) (g .own) (omega arith) (omega arith) (octets .own) own-good
+
+  pub clr-is-sent : IsClr g (sentList 3 (g .set) (g .own))
+  clr-is-sent = list-is-sent 3 (g .set) (g .own) (omega arith) (omega arith) (octets .own) own-good
+
+  -- the MS of a wish that was chosen
+  ms-is-sent : (far : Far) {p : Pick} (f : First (standardCodes (g .own)) far (g .run) p) → IsMs far g (f .wish) (sentMode (g .set) (offerBy far g) (g .run) p)
+  unfolding farOffer
+  ms-is-sent unheard {p} f =
+      rw (offers-none (g .set) .0, offers-none (g .set) .1) at
+      (mode-is-sent (standardCodes (g .own)) unheard (g .set) noOffer (g .run) p f (octets .run) (wish-good f))
+  ms-is-sent (heard list) {p} f = mode-is-sent (standardCodes (g .own)) (heard list) (g .set) (farOffer (g .field)) (g .run) p f (octets .run) (wish-good f)
+
+  abbrev proposal : (far : Far) (p : Pick) → choiceBy far g ≡ chosen p → Proposal far g
+  proposal far p e =
+      let f = chosen-first (standardCodes (g .own)) far (g .run) p e in
+      record { pick = p; chosen = f; ms = sentMode (g .set) (offerBy far g) (g .run) p; sent = ms-is-sent far f }
+
+  -- so a choice that is sent as MS, alone or behind a CL, is the first wish that suits; where there is none, none does
+  module _ (far : Far) (stored : List ℕ) where
+    pub ms-goes : SendsMs far stored g (proposes (choiceBy far g) (g .set) (offerBy far g) (g .run) stored (g .time))
+    ms-goes = go (settled far g) refl
+      where
+        go : {c : Choosing} → Settled c → choiceBy far g ≡ c → SendsMs far stored g (proposes c (g .set) (offerBy far g) (g .run) stored (g .time))
+        go (one p) e = ms-first (proposal far p e) refl
+        go eleven e = ms-none (no-choice (standardCodes (g .own)) far (g .run) .0 e) refl
+
+    pub cl-ms-go : SendsClMs far stored g (proposesBehind (sentList 2 (g .set) (g .own)) (choiceBy far g) (g .set) (offerBy far g) (g .run) stored (g .time))
+    cl-ms-go = go (settled far g) refl
+      where
+        go : {c : Choosing} → Settled c → choiceBy far g ≡ c
+            → SendsClMs far stored g (proposesBehind (sentList 2 (g .set) (g .own)) c (g .set) (offerBy far g) (g .run) stored (g .time))
+        go (one p) e = cl-ms-first (proposal far p e) (sentList 2 (g .set) (g .own)) cl-is-sent refl
+        go eleven e = cl-ms-none (no-choice (standardCodes (g .own)) far (g .run) .0 e) refl
+
+-- ---- what a choice tells
+
+abbrev toldBy : Choosing → ℕ
+toldBy (chosen p) = 0
+toldBy (refused n) = n
+
+module _ (far : Far) (g : Given) where
+  -- success or 11
+  told-two : (toldBy (choiceBy far g) ≡ 0) ⊎ (toldBy (choiceBy far g) ≡ 11)
+  told-two = go (settled far g)
+    where
+      go : {c : Choosing} → Settled c → (toldBy c ≡ 0) ⊎ (toldBy c ≡ 11)
+      go (one p) = inl refl
+      go eleven = inr refl
+
+  -- 11 exactly where no wish suits
+  told-none : (toldBy (choiceBy far g) ≡ 11) ↔ NoneSuits far g
+  told-none = (go (settled far g) refl, λ n. ap toldBy (no-choice (standardCodes (g .own)) far (g .run) .1 n))
+    where
+      go : {c : Choosing} → Settled c → choiceBy far g ≡ c → toldBy c ≡ 11 → NoneSuits far g
+      go (one p) e t = absurd (omega arith)
+      go eleven e t = no-choice (standardCodes (g .own)) far (g .run) .0 e
+
+alone-told : (c : Choosing) (set : Settings) (far : FarOffer) (run stored : List ℕ) (time : ℕ) → proposes c set far run stored time .told ≡ toldBy c
+alone-told (chosen p) set far run stored time = refl
+alone-told (refused n) set far run stored time = refl
+
+behind-told : (list : List ℕ) (c : Choosing) (set : Settings) (far : FarOffer) (run stored : List ℕ) (time : ℕ) → proposesBehind list c set far run stored time .told ≡ toldBy c
+behind-told list (chosen p) set far run stored time = refl
+behind-told list (refused n) set far run stored time = refl
 
 -- ---- the acts that propose
 
--- each with the far list that it goes by, and what the far side offers
-pub data Proposing (g : Given) : Act → Far → FarOffer → Type 0 where
-  at-once : Proposing g Propose unheard noOffer
-  on-list : Proposing g (Take ThenMs) (listHeard g) (farOffer (g .field))
-  behind-list : Proposing g (Take ThenClMs) (listHeard g) (farOffer (g .field))
-
--- an MS is sent, alone or behind a CL
-abbrev pub SendsMode : Outcome → Given → List ℕ → Type 0
-SendsMode o g ms = ((o .first ≡ ms) × (o .second ≡ [])) ⊎ ((o .first ≡ sentList 2 (g .set) (g .own)) × (o .second ≡ ms))
-
--- the wish that is proposed is the first that suits: ready, and common where a list was heard; and its MS is sent
-pub record Proposal (far : Far) (offer : FarOffer) (g : Given) (o : Outcome) : Type 0 where
-  pub pick : Pick
-  pub chosen : First (standardCodes (g .own)) far (g .run) pick
-  pub ms : SendsMode o g (sentMode (g .set) offer (g .run) pick)
-  pub next : o .next ≡ Proposed (g .time) (pick .number) (g .set .ack)
-
--- no wish suits
-abbrev pub NoneSuits : Far → Given → Type 0
-NoneSuits far g = (w : Wish) → List·Memᴰ w (wishesOf (g .run)) → suits (standardCodes (g .own)) far w ≡ false
-
-module _ (far : Far) (offer : FarOffer) (g : Given) (stored : List ℕ) where
-  abbrev alone : Choice → Outcome
-  alone c = proposes c (g .set) offer (g .run) stored (g .time)
-
-  abbrev behind : Choice → Outcome
-  behind c = proposesBehind (sentList 2 (g .set) (g .own)) c (g .set) offer (g .run) stored (g .time)
-
-  -- of a choice that is told Done
-  alone-first : (c : Choice) → choiceBy far g ≡ c → alone c .told ≡ Done → Proposal far offer g (alone c)
-  alone-first (Chosen p) e t = record { pick = p; chosen = chosen-first (standardCodes (g .own)) far (g .run) p e; ms = inl (refl, refl); next = refl }
-  alone-first NoChoice e t = absurd (omega (arith, ap toldNo t))
-
-  behind-first : (c : Choice) → choiceBy far g ≡ c → behind c .told ≡ Done → Proposal far offer g (behind c)
-  behind-first (Chosen p) e t = record { pick = p; chosen = chosen-first (standardCodes (g .own)) far (g .run) p e; ms = inr (refl, refl); next = refl }
-  behind-first NoChoice e t = absurd (omega (arith, ap toldNo t))
-
-  -- of one that is told 11
-  alone-none : (c : Choice) → choiceBy far g ≡ c → alone c .told ≡ NothingToPropose → NoneSuits far g
-  alone-none (Chosen p) e t = absurd (omega (arith, ap toldNo t))
-  alone-none NoChoice e t = no-choice (standardCodes (g .own)) far (g .run) .0 e
-
-  behind-none : (c : Choice) → choiceBy far g ≡ c → behind c .told ≡ NothingToPropose → NoneSuits far g
-  behind-none (Chosen p) e t = absurd (omega (arith, ap toldNo t))
-  behind-none NoChoice e t = no-choice (standardCodes (g .own)) far (g .run) .0 e
-
 module _ (p : Phase) (g : Given) where
-  -- where such an act is told Done, it proposes the first wish that suits
-  act-first : {a : Act} {far : Far} {offer : FarOffer} → Proposing g a far offer → doing a p g .told ≡ Done → Proposal far offer g (doing a p g)
-  act-first at-once t = alone-first unheard noOffer g [] (choiceBy unheard g) refl t
-  act-first on-list t = alone-first (listHeard g) (farOffer (g .field)) g (storedList (g .field)) (choiceBy (listHeard g) g) refl t
-  act-first behind-list t = behind-first (listHeard g) (farOffer (g .field)) g (storedList (g .field)) (choiceBy (listHeard g) g) refl t
+  act-told : {a : Act} {far : Far} → Proposing g a far → doing a p g .told ≡ toldBy (choiceBy far g)
+  unfolding farList
+  act-told at-once = alone-told (choiceBy unheard g) (g .set) noOffer (g .run) [] (g .time)
+  act-told on-list = alone-told (choiceBy (farHeard g) g) (g .set) (farOffer (g .field)) (g .run) (storedList (g .field)) (g .time)
+  act-told behind-list = behind-told (sentList 2 (g .set) (g .own)) (choiceBy (farHeard g) g) (g .set) (farOffer (g .field)) (g .run) (storedList (g .field)) (g .time)
 
-  -- it is told 11 exactly where no wish suits
-  act-none : {a : Act} {far : Far} {offer : FarOffer} → Proposing g a far offer → doing a p g .told ≡ NothingToPropose → NoneSuits far g
-  act-none at-once t = alone-none unheard noOffer g [] (choiceBy unheard g) refl t
-  act-none on-list t = alone-none (listHeard g) (farOffer (g .field)) g (storedList (g .field)) (choiceBy (listHeard g) g) refl t
-  act-none behind-list t = behind-none (listHeard g) (farOffer (g .field)) g (storedList (g .field)) (choiceBy (listHeard g) g) refl t
+-- the wish, how its MS stands, and the next phase
+abbrev pub Proposed-by : Far → Given → Outcome → Type 0
+Proposed-by far g o = (y : Proposal far g) × SendsMode g (y .ms) o × (o .next ≡ proposedBy y)
 
-  none-act : {a : Act} {far : Far} {offer : FarOffer} → Proposing g a far offer → NoneSuits far g → doing a p g .told ≡ NothingToPropose
-  none-act at-once n = rw (no-choice (standardCodes (g .own)) unheard (g .run) .1 n)
-  none-act on-list n = rw (no-choice (standardCodes (g .own)) (listHeard g) (g .run) .1 n)
-  none-act behind-list n = rw (no-choice (standardCodes (g .own)) (listHeard g) (g .run) .1 n)
+module _ {far : Far} {stored : List ℕ} {g : Given} {o : Outcome} (t : o .told ≡ 0) where
+  of-ms : SendsMs far stored g o → Proposed-by far g o
+  of-ms (ms-first x e) = (x, inl (ap (λ (o : Outcome). o .first) e, ap (λ (o : Outcome). o .second) e), ap (λ (o : Outcome). o .next) e)
+  of-ms (ms-none n e) = absurd (omega (arith, ap (λ (o : Outcome). o .told) e))
+
+  of-cl-ms : SendsClMs far stored g o → Proposed-by far g o
+  of-cl-ms (cl-ms-first x cl c e) = (x, inr (rw (ap (λ (o : Outcome). o .first) e) c, ap (λ (o : Outcome). o .second) e), ap (λ (o : Outcome). o .next) e)
+  of-cl-ms (cl-ms-none n e) = absurd (omega (arith, ap (λ (o : Outcome). o .told) e))
+
+module _ (p : Phase) (g : Given) (s : Sound g) (octets : InOctets g) where
+  act-first : {a : Act} {far : Far} → Proposing g a far → doing a p g .told ≡ 0 → Proposed-by far g (doing a p g)
+  unfolding farList
+  act-first at-once t = of-ms t (ms-goes g s octets unheard [])
+  act-first on-list t = of-ms t (ms-goes g s octets (farHeard g) (storedList (g .field)))
+  act-first behind-list t = of-cl-ms t (cl-ms-go g s octets (farHeard g) (storedList (g .field)))
 
 -- ---- over steps
 
--- the step is one that proposes
-pub record Proposes (p : Phase) (g : Given) : Type 0 where
-  pub heard : Heard
-  pub far : Far
-  pub offer : FarOffer
-  pub passes : Passes p g heard
-  pub acts : Proposing g (actOn p g heard) far offer
-
 module _ (p : Phase) (g : Given) (x : Proposes p g) where
-  -- what is proposed is the first ready wish, among the common ones where a list was heard
-  pub proposed-first : steps p g .told ≡ Done → Proposal (x .far) (x .offer) g (steps p g)
-  proposed-first t = rw (follows p g (x .passes)) (act-first p g (x .acts) (rw (follows p g (x .passes)) at t))
+  step-told : steps p g .told ≡ toldBy (choiceBy (x .far) g)
+  step-told = ap (λ (o : Outcome). o .told) (follows p g (x .passes)) ∙ act-told p g (x .acts)
 
-  -- 11 is told exactly where no wish suits
-  pub none-suits : steps p g .told ≡ NothingToPropose → NoneSuits (x .far) g
-  none-suits t = act-none p g (x .acts) (rw (follows p g (x .passes)) at t)
+  -- success and 11 are the only answers
+  pub two-answers : (steps p g .told ≡ 0) ⊎ (steps p g .told ≡ 11)
+  two-answers = rw step-told (told-two (x .far) g)
 
-  pub suits-none : NoneSuits (x .far) g → steps p g .told ≡ NothingToPropose
-  suits-none n = rw (follows p g (x .passes)) (none-act p g (x .acts) n)
+  -- 11 exactly where no wish suits
+  pub none-suits : (steps p g .told ≡ 11) ↔ NoneSuits (x .far) g
+  none-suits = rw step-told (told-none (x .far) g)
+
+  -- with success the first ready wish is proposed, among the common ones where a list was heard
+  pub proposed-first : InOctets g → steps p g .told ≡ 0 → Proposed-by (x .far) g (steps p g)
+  proposed-first octets t =
+      rw (follows p g (x .passes)) (act-first p g (x .passes .due .sound) octets (x .acts) (rw (follows p g (x .passes)) at t))
 
 -- ---- no other step proposes
 
 -- it is not told 11, and is not a success that leads to Proposed
 record Other (o : Outcome) : Type 0 where
-  eleven : o .told ≡ NothingToPropose → ⊥
-  proposed : o .told ≡ Done → kindOf (o .next) ≡ AtProposed → ⊥
+  eleven : o .told ≡ 11 → ⊥
+  proposed : o .told ≡ 0 → kindOf (o .next) ≡ AtProposed → ⊥
 
 abbrev proposed : Kind → Bool
 proposed k = isAmong k (AtProposed ∷ [])
 
-other : (o : Outcome) → o .told ≡ Done → proposed (kindOf (o .next)) ≡ false → Other o
-other o t k = record { eleven = λ e. omega (arith, ap toldNo (sym t ∙ e)); proposed = λ d e. never (sym k ∙ ap proposed e) }
+other : (o : Outcome) → o .told ≡ 0 → proposed (kindOf (o .next)) ≡ false → Other o
+other o t k = record { eleven = λ e. omega (arith, t, e); proposed = λ d e. never (sym k ∙ ap proposed e) }
 
-refused : (o : Outcome) → isActedOn (o .told) ≡ false → Other o
-refused o t = record { eleven = λ e. never (sym t ∙ ap isActedOn e); proposed = λ d e. never (sym t ∙ ap isActedOn d) }
+idle-other : (o : Outcome) → isActedOn (o .told) ≡ false → Other o
+idle-other o t = record { eleven = λ e. never (sym t ∙ ap isActedOn e); proposed = λ d e. never (sym t ∙ ap isActedOn d) }
 
-other-verdict : (v : Verdict) (m : List ℕ) (time : ℕ) → Other (judges v m time)
-other-verdict Accepted m time = other (judges Accepted m time) refl refl
-other-verdict NotReady m time = other (judges NotReady m time) refl refl
-other-verdict NoFit m time = other (judges NoFit m time) refl refl
+other-verdict : (v : ℕ) (m : List ℕ) (time : ℕ) → Other (judges v m time)
+other-verdict zero m time = other (judges zero m time) refl refl
+other-verdict (suc k) m time = other (judges (suc k) m time) refl refl
 
 -- an act that proposes
 record Found (g : Given) (a : Act) : Type 0 where
   far : Far
-  offer : FarOffer
-  acts : Proposing g a far offer
+  acts : Proposing g a far
 
 -- every act proposes or is another
 act-cases : (p : Phase) (g : Given) (a : Act) → Found g a ⊎ Other (doing a p g)
-act-cases p g NoRow = inr (refused (doing NoRow p g) refl)
+act-cases p g NoRow = inr (idle-other (doing NoRow p g) refl)
 act-cases p g SendMrE = inr (other (doing SendMrE p g) refl refl)
 act-cases p g SendMrD = inr (other (doing SendMrD p g) refl refl)
 act-cases p g CounterMrD = inr (other (doing CounterMrD p g) refl refl)
 act-cases p g SendCrE = inr (other (doing SendCrE p g) refl refl)
 act-cases p g SendCrD = inr (other (doing SendCrD p g) refl refl)
-act-cases p g Propose = inl (record { far = unheard; offer = noOffer; acts = at-once })
+act-cases p g Propose = inl (record { far = unheard; acts = at-once })
 act-cases p g SendCl = inr (other (doing SendCl p g) refl refl)
 act-cases p g SendClr = inr (other (doing SendClr p g) refl refl)
 act-cases p g PairClr = inr (other (doing PairClr p g) refl refl)
-act-cases p g (Take ThenMs) = inl (record { far = listHeard g; offer = farOffer (g .field); acts = on-list })
-act-cases p g (Take ThenClMs) = inl (record { far = listHeard g; offer = farOffer (g .field); acts = behind-list })
+act-cases p g (Take ThenMs) = inl (record { far = heard (listNamed g); acts = on-list })
+act-cases p g (Take ThenClMs) = inl (record { far = heard (listNamed g); acts = behind-list })
 act-cases p g (Take ThenCl) = inr (other (doing (Take ThenCl) p g) refl refl)
 act-cases p g (Take ThenHalf) = inr (other (doing (Take ThenHalf) p g) refl refl)
 act-cases p g Judge = inr (other-verdict (verdictOn g) (g .field) (g .time))
@@ -181,78 +224,76 @@ module _ (p : Phase) (g : Given) where
   step-cases : Proposes p g ⊎ Other (steps p g)
   step-cases =
       of-step (λ (o : Outcome). Proposes p g ⊎ Other o) p g
-      (inr (other (quiet Done (Initial (g .time))) refl refl))
-      (λ t k. inr (refused (quiet t p) (kept-idle t k)))
-      (inr (refused (quiet TimedOut (Initial (g .time))) refl))
-      (λ h s. ⊎-elim (λ f. inl (record { heard = h; far = f .far; offer = f .offer; passes = s; acts = f .acts })) (λ o. inr o) (act-cases p g (actOn p g h)))
+      (inr (other (quiet 0 (Initial (g .time))) refl refl))
+      (λ n k. inr (idle-other (quiet n p) (kept-idle n k)))
+      (inr (idle-other (quiet 6 (Initial (g .time))) refl))
+      (λ h s. ⊎-elim (λ f. inl (record { heard = h; far = f .far; passes = s; acts = f .acts })) (λ o. inr o) (act-cases p g (actOn p g h)))
 
   -- only such a step is told 11
-  pub eleven-proposes : steps p g .told ≡ NothingToPropose → Proposes p g
+  pub eleven-proposes : steps p g .told ≡ 11 → Proposes p g
   eleven-proposes t = ⊎-elim (λ x. x) (λ o. absurd (o .eleven t)) step-cases
 
   -- and only such a step leads to Proposed
-  pub proposed-proposes : steps p g .told ≡ Done → kindOf (steps p g .next) ≡ AtProposed → Proposes p g
+  pub proposed-proposes : steps p g .told ≡ 0 → kindOf (steps p g .next) ≡ AtProposed → Proposes p g
   proposed-proposes t e = ⊎-elim (λ x. x) (λ o. absurd (o .proposed t e)) step-cases
 
 -- ---- the wish that is proposed
 
-module _ {far : Far} {offer : FarOffer} {g : Given} {o : Outcome} (x : Proposal far offer g o) where
-  -- the MS carries its parameters
-  pub carries-wish : standardCodes (take (x .pick .length) (drop (x .pick .at) (g .run))) ≡ wishCodes (x .chosen .wish)
-  carries-wish = ap standardCodes (x .chosen .field)
-
-  -- it is ready
-  pub proposes-ready : x .chosen .wish .ready ≡ true
-  proposes-ready = first-is-ready (standardCodes (g .own)) far (g .run) (x .pick) (x .chosen)
-
-  -- it lies in the own table
-  pub proposes-own : Sound g → allIn (wishCodes (x .chosen .wish)) (standardCodes (g .own)) ≡ true
-  proposes-own s = tables-good (g .own) (g .run) (s .tables) .inside (x .chosen .wish) (first-member (x .chosen))
+-- it lies in the own table
+pub proposed-own : (far : Far) (g : Given) → Sound g → (x : Proposal far g) → allIn (wishCodes (x .chosen .wish)) (standardCodes (g .own)) ≡ true
+proposed-own far g s x = tables-good (g .own) (g .run) (s .tables) .inside (x .chosen .wish) (first-member (x .chosen))
 
 -- and, where a list was heard, in that list
-pub proposes-common : {list : List ℕ} {offer : FarOffer} {g : Given} {o : Outcome} (x : Proposal (heard list) offer g o) → allIn (wishCodes (x .chosen .wish)) list ≡ true
-proposes-common {list} {offer} {g} x =
+pub proposed-common : (list : List ℕ) (g : Given) (x : Proposal (heard list) g) → allIn (wishCodes (x .chosen .wish)) list ≡ true
+proposed-common list g x =
     let codes = wishCodes (x .chosen .wish) in
     both-parts (allIn codes (standardCodes (g .own))) (allIn codes list) (both-parts (x .chosen .wish .ready) _ (x .chosen .suited) .1) .1
 
--- ---- what the MS offers
+-- ---- what the MS says
 
-module _ (set : Settings) (far : FarOffer) where
-  -- never V.8 and Short V.8 both
-  pub not-both-offered : both (modeOffer set far .eight) (modeOffer set far .short) ≡ false
-  not-both-offered = go (both (set .short) (far .short)) (both (set .eight) (far .eight))
-    where
-      go : (short eight : Bool) → both (both (not short) eight) short ≡ false
-      go true eight = refl
-      go false eight = both-false eight
+-- V.8 and Short V.8 are said exactly where the message has their codes, whatever standard codes stand behind
+module _ (standard : List ℕ) where
+  eight-said : isIn (codeOf 1 0 0 1) standard ≡ false → (eight short ack : Bool) → isIn (codeOf 1 0 0 1) (says 1 eight ++ (says 2 short ++ (says 4 ack ++ standard))) ≡ eight
+  unfolding isIn
+  eight-said h =
+      all-offers (λ (eight short ack : Bool). isIn (codeOf 1 0 0 1) (says 1 eight ++ (says 2 short ++ (says 4 ack ++ standard))) ≡ eight)
+      refl refl refl refl h h h h
 
-  -- Short V.8 exactly if both sides offer it
-  pub short-offered : modeOffer set far .short ≡ both (set .short) (far .short)
-  short-offered = refl
+  short-said : isIn (codeOf 1 0 0 2) standard ≡ false → (eight short ack : Bool) → isIn (codeOf 1 0 0 2) (says 1 eight ++ (says 2 short ++ (says 4 ack ++ standard))) ≡ short
+  unfolding isIn
+  short-said h =
+      all-offers (λ (eight short ack : Bool). isIn (codeOf 1 0 0 2) (says 1 eight ++ (says 2 short ++ (says 4 ack ++ standard))) ≡ short)
+      refl refl h h refl refl h h
 
-  -- V.8 only if both sides do
-  pub eight-offered : modeOffer set far .eight ≡ true → (set .eight ≡ true) × (far .eight ≡ true)
-  eight-offered e = both-parts (set .eight) (far .eight) (both-parts (not (both (set .short) (far .short))) (both (set .eight) (far .eight)) e .1)
+module _ {eight short ack : Bool} (w : Wish) {ms : List ℕ} (x : IsSent 1 eight short ack (wishCodes w) ms) where
+  eight-in : isIn (codeOf 1 0 0 1) (messageCodes ms) ≡ eight
+  eight-in = ap (isIn (codeOf 1 0 0 1)) (x .read .3) ∙ eight-said (wishCodes w) (standard-high (codeOf 1 0 0 1) (w .field) (omega arith)) eight short ack
 
--- with no far list neither
-pub unheard-offers-none : (set : Settings) → (modeOffer set noOffer .eight ≡ false) × (modeOffer set noOffer .short ≡ false)
-unheard-offers-none set = (rw (both-false (set .eight)) (both-false (not (both (set .short) false))), both-false (set .short))
+  short-in : isIn (codeOf 1 0 0 2) (messageCodes ms) ≡ short
+  short-in = ap (isIn (codeOf 1 0 0 2)) (x .read .3) ∙ short-said (wishCodes w) (standard-high (codeOf 1 0 0 2) (w .field) (omega arith)) eight short ack
 
--- the MS, octet for octet: V.8 is bit 1 of the second octet, Short V.8 bit 2, and bit 4 asks for ACK(1)
-pub mode-octets : {far : Far} {offer : FarOffer} {g : Given} {o : Outcome} (x : Proposal far offer g o) → AreOctets (g .run) → Sound g
-    → sentMode (g .set) offer (g .run) (x .pick)
-    ≡ 0x21 ∷ (128 + num (modeOffer (g .set) offer .eight) + 2 * num (modeOffer (g .set) offer .short) + 8 * num (g .set .ack)) ∷ 0x80 ∷ x .chosen .wish .field
-unfolding sentMode
-mode-octets {far} {offer} {g} x octets s =
-    let f = x .chosen in
-    let field = take (x .pick .length) (drop (x .pick .at) (g .run)) in
-    let good : goodField field ≡ true = rw (f .field) (tables-good (g .own) (g .run) (s .tables) .field (f .wish) (first-member f)) in
-    sent-octets 1 (modeOffer (g .set) offer) field (omega arith) (part-octets (x .pick .at) (x .pick .length) (g .run) octets (f .inside)) good ∙ rw (f .field)
+both-hold : (a b : Bool) → (both a b ≡ true) ↔ ((a ≡ true) × (b ≡ true))
+both-hold a b = (both-parts a b, λ h. rw (h .0) (h .1))
 
--- ---- revision
+not-true : (a : Bool) → (not a ≡ true) ↔ (a ≡ false)
+not-true true = (λ e. never e, λ e. never (sym e))
+not-true false = (λ e. refl, λ e. refl)
 
--- everything that is sent is of revision 2
-pub revision-two : (p : Phase) (g : Given) → Sent (steps p g .first) × Sent (steps p g .second)
-revision-two p g =
-    of-outcome (λ (o : Outcome). Sent (o .first) × Sent (o .second)) p g
-    (λ t k. (inl refl, inl refl)) (inl refl, inl refl) (λ stored. (inl refl, inl refl)) (λ o s. (s .first, s .second))
+module _ (list : List ℕ) (g : Given) (w : Wish) (ms : List ℕ) (x : IsMs (heard list) g w ms) where
+  -- after a far list Short V.8 is said exactly if both sides offer it
+  pub short-if-both : (isIn (codeOf 1 0 0 2) (messageCodes ms) ≡ true) ↔ ((g .set .short ≡ true) × (farSays 2 g ≡ true))
+  short-if-both = rw (short-in w x) (both-hold (g .set .short) (farSays 2 g))
+
+  -- and V.8 exactly if both do, and not both Short V.8
+  pub eight-if-both : (isIn (codeOf 1 0 0 1) (messageCodes ms) ≡ true) ↔ ((g .set .eight ≡ true) × (farSays 1 g ≡ true) × (bothShort g ≡ false))
+  eight-if-both =
+      let outer = both-hold (not (bothShort g)) (bothEight g) in
+      let inner = both-hold (g .set .eight) (farSays 1 g) in
+      rw (eight-in w x)
+      (λ e. let o = outer .0 e in let i = inner .0 (o .1) in (i .0, i .1, not-true (bothShort g) .0 (o .0)),
+      λ h. outer .1 (not-true (bothShort g) .1 (h .2), inner .1 (h .0, h .1)))
+
+-- with no far list it says neither
+pub neither-unheard : (g : Given) (w : Wish) (ms : List ℕ) → IsMs unheard g w ms
+    → (isIn (codeOf 1 0 0 1) (messageCodes ms) ≡ false) × (isIn (codeOf 1 0 0 2) (messageCodes ms) ≡ false)
+neither-unheard g w ms x = (eight-in w x, short-in w x)

@@ -3,17 +3,14 @@
 -- Assumes nothing.
 use Prim.Native.Nat.{ℕ, _+_, _-_, _<_, _≤_}
 use mathlib.Core.Bool.{Bool, true, false}
-use mathlib.Core.List.{List, [], _∷_, _++_}
+use mathlib.Core.List.{List, [], _∷_}
 use mathlib.Core.Logic.{_⊎_, ⊎-elim}
 use mathlib.Core.Path.{_≡_, refl, sym, ap, _∙_}
 use native.Mathlib.Omega.{arith}
 use borrow.Author.Tests.{lt-ltb, le-ltb, ne-eqb}
 use lib.Dec.{eqb}
-use lib.ListN.{length, drop, length-append}
-use lib.Seq.{drop-append-seam}
-use Rattle.octets.specs.Lay.{put}
 use Rattle.octets.proofs.Laying.{put-nil}
-use Rattle.message.specs.Reader.{listRoom, readMessage, refused}
+use Rattle.message.specs.Reader.{readMessage, refused}
 use Rattle.choice.proofs.Truths.{never}
 use Rattle.table.specs.declared.Phase.{Phase}
 use Rattle.table.specs.declared.Phase.the-variants.{Initial}
@@ -24,21 +21,21 @@ use Rattle.table.specs.declared.Heard.the-variants.{AnswerTone, Spoilt}
 use Rattle.table.specs.declared.Act.{Act}
 use Rattle.table.specs.declared.Act.the-variants.{NoRow, SendMrE, SendMrD, CounterMrD, SendCrE, SendCrD, Propose, SendCl, SendClr, PairClr, Take, Judge, Agree, GiveUp, SendNak1}
 use Rattle.table.specs.declared.Settings.{Settings}
-use Rattle.table.specs.Phases.{kindOf, entryOf, ackOf}
+use Rattle.table.specs.Phases.{kindOf, entryOf, ackOf, isOver}
 use Rattle.table.specs.Rows.{actOf}
-use Rattle.table.specs.Bound.{isOver}
 use Rattle.table.proofs.Lines.{each, within, spoilt-gets-nak1}
-use Rattle.station.specs.Sending.{sentNak}
-use Rattle.station.specs.Sorting.{known, sortOf, startHeard, signalHeard, isMessage}
-use Rattle.station.specs.Acting.{Outcome, quiet, sends, does, needsField}
-use Rattle.station.specs.Stepping.{longest, isMode, sorted, timed, checked, stepOf, Did}
+use Rattle.station.specs.Sorting.{known, sortOf, startHeard, signalHeard}
+use Rattle.station.specs.Acting.{Outcome, quiet, sends, does}
+use Rattle.station.specs.Stepping.{longest, isMode, toldNo, Reply, sorted, timed, checked, stepOf, Did}
+use Rattle.station.specs.Inner.{isMessage, needsField}
 use Rattle.station.specs.declared.Event.{Event}
 use Rattle.station.specs.declared.Event.the-variants.{Begin, Tones, Field, InvalidFrame, Answer, Reset}
 use Rattle.station.specs.declared.Sends.the-variants.{NoSignal}
 use Rattle.station.specs.declared.Stepped.{Stepped}
-use Rattle.station.specs.declared.Told.the-variants.{Done, TimedOut}
 use Rattle.station.proofs.Needing.{bare-needs, hears-spoilt, start-bare, signal-bare}
-use Rattle.demands.proofs.Following.{Given, steps, Sound, Due, refuses-6, follows, isActedOn, of-outcome}
+use Rattle.station.proofs.Sendings.{nak-octet}
+use Rattle.demands.specs.Given.{Given, steps, Sound, Due, HearsSpoilt, isActedOn}
+use Rattle.demands.proofs.Following.{refuses-6, follows, of-outcome}
 
 -- ---- the field is looked at only for Field
 
@@ -89,7 +86,7 @@ module _ (p : Phase) (set : Settings) (own run m m′ : List ℕ) (time : ℕ) w
 
 -- it gives Initial, whatever else is given
 pub reset-initial : (p : Phase) (set : Settings) (own run m : List ℕ) (time outSize storeSize : ℕ)
-    → stepOf p set own run Reset m time outSize storeSize ≡ quiet Done (Initial time)
+    → stepOf p set own run Reset m time outSize storeSize ≡ quiet 0 (Initial time)
 unfolding stepOf
 reset-initial p set own run m time outSize storeSize = refl
 
@@ -106,13 +103,13 @@ module _ (p : Phase) (g : Given) (s : Sound g) (n : isOver (kindOf p) ≡ false)
   in-time-handled a b =
       record { sound = s; after = a; prompt = rw n (le-ltb longest (g .time - entryOf p) (omega arith)); awake = over-mode (kindOf p) n }
 
-  pub late-timed-out : entryOf p + longest < g .time → steps p g ≡ quiet TimedOut (Initial (g .time))
+  pub late-timed-out : entryOf p + longest < g .time → steps p g ≡ quiet 6 (Initial (g .time))
   late-timed-out h = refuses-6 p g s (omega arith) (rw n (lt-ltb longest (g .time - entryOf p) (omega arith)))
 
   pub at-5000-handled : g .time ≡ entryOf p + 5000 → Due p g
   at-5000-handled e = in-time-handled (omega arith) (omega arith)
 
-  pub at-5001-timed-out : g .time ≡ entryOf p + 5001 → steps p g ≡ quiet TimedOut (Initial (g .time))
+  pub at-5001-timed-out : g .time ≡ entryOf p + 5001 → steps p g ≡ quiet 6 (Initial (g .time))
   at-5001-timed-out e = late-timed-out (omega arith)
 
 -- ---- what is spoilt
@@ -123,59 +120,42 @@ awake-nak =
     (λ e. refl) (λ e. refl) (λ e. refl) (λ e. refl) (λ e. refl) (λ e. refl) (λ e. refl) (λ e. refl) (λ e. refl) (λ e. refl) (λ e. refl) (λ e. never (sym e))
 
 module _ (p : Phase) (g : Given) (d : Due p g) where
-  spoilt-nak : sortOf (g .event) (g .field) ≡ known Spoilt → steps p g ≡ sends (sentNak 1) [] [] (Initial (g .time))
-  spoilt-nak e =
+  nak-sent : sortOf (g .event) (g .field) ≡ known Spoilt → steps p g ≡ sends (0x28 ∷ []) [] [] (Initial (g .time))
+  nak-sent e =
       follows p g (record { due = d; heard = e })
-      ∙ rw (spoilt-gets-nak1 (g .set) (ackOf p) (kindOf p) ∙ awake-nak (kindOf p) (d .awake))
+      ∙ rw (spoilt-gets-nak1 (g .set) (ackOf p) (kindOf p) ∙ awake-nak (kindOf p) (d .awake), nak-octet 1)
 
-  -- in every phase but Mode an invalid frame gives NAK(1) and Initial
-  pub invalid-frame-nak : g .event ≡ InvalidFrame → steps p g ≡ sends (sentNak 1) [] [] (Initial (g .time))
-  invalid-frame-nak e = spoilt-nak (rw e)
+  field-spoilt : (k : ℕ) → g .event ≡ Field → readMessage (g .field) 448 ≡ refused k → eqb k 3 ≡ false → steps p g ≡ sends (0x28 ∷ []) [] [] (Initial (g .time))
+  field-spoilt k e r other = nak-sent (rw e (hears-spoilt (g .field) k r other .0))
 
-  -- and so does a field that the message reader refuses with 2 or 4
-  pub refused-field-nak : (k : ℕ) → g .event ≡ Field → readMessage (g .field) listRoom ≡ refused k → (k ≡ 2) ⊎ (k ≡ 4) → steps p g ≡ sends (sentNak 1) [] [] (Initial (g .time))
-  refused-field-nak k e r t =
-      let other : eqb k 3 ≡ false = ne-eqb k 3 (λ three. ⊎-elim (λ two. omega arith) (λ four. omega arith) t) in
-      spoilt-nak (rw e (hears-spoilt (g .field) k r other .0))
+  -- in every phase but Mode an invalid frame gives NAK(1) and Initial, and so does a field that the message reader refuses with 2 or 4
+  pub spoilt-nak : HearsSpoilt g → steps p g ≡ sends (0x28 ∷ []) [] [] (Initial (g .time))
+  spoilt-nak = ⊎-elim (λ e. nak-sent (rw e)) (λ f. ⊎-elim (λ r. field-spoilt 2 (f .0) r refl) (λ r. field-spoilt 4 (f .0) r refl) (f .1))
 
 -- ---- refusals send nothing, and write nothing but what 11 has stored
 
 module _ (p : Phase) (g : Given) where
-  pub refusal-silent : (steps p g .told ≡ Done → ⊥) → (steps p g .signal ≡ NoSignal) × (steps p g .first ≡ []) × (steps p g .second ≡ [])
+  pub refusal-silent : (steps p g .told ≡ 0 → ⊥) → (steps p g .signal ≡ NoSignal) × (steps p g .first ≡ []) × (steps p g .second ≡ [])
   refusal-silent =
-      of-outcome (λ (o : Outcome). (o .told ≡ Done → ⊥) → (o .signal ≡ NoSignal) × (o .first ≡ []) × (o .second ≡ [])) p g
-      (λ t k n. (refl, refl, refl)) (λ n. (refl, refl, refl)) (λ stored n. (refl, refl, refl)) (λ o s n. absurd (n (s .told)))
+      of-outcome (λ (o : Outcome). (o .told ≡ 0 → ⊥) → (o .signal ≡ NoSignal) × (o .first ≡ []) × (o .second ≡ [])) p g
+      (λ k h n. (refl, refl, refl)) (λ n. (refl, refl, refl)) (λ stored n. (refl, refl, refl)) (λ o s n. absurd (n (s .told)))
 
   pub refusal-stores-none : isActedOn (steps p g .told) ≡ false → steps p g .stored ≡ []
   refusal-stores-none =
       of-outcome (λ (o : Outcome). isActedOn (o .told) ≡ false → o .stored ≡ []) p g
-      (λ t k n. refl) (λ n. refl) (λ stored n. never (sym n)) (λ o s n. never (sym n ∙ ap isActedOn (s .told)))
+      (λ k h n. refl) (λ n. refl) (λ stored n. never (sym n)) (λ o s n. never (sym n ∙ ap isActedOn (s .told)))
 
   module _ {out₀ out₁ store₀ store₁ : List ℕ} {r : Stepped} (d : Did (steps p g) out₀ store₀ r out₁ store₁) where
+    number-told : toldNo (r .told) ≡ steps p g .told
+    number-told = ap (λ (x : Reply). x .no) (d .reply)
+
     -- the output is as it was
-    pub refusal-keeps-output : (r .told ≡ Done → ⊥) → out₁ ≡ out₀
-    refusal-keeps-output n =
-        let q = refusal-silent (λ t. n (ap (λ (x : Stepped). x .told) (d .reply) ∙ t)) in
-        d .output ∙ rw (q .1, q .2) (put-nil out₀)
+    pub refusal-keeps-output : (toldNo (r .told) ≡ 0 → ⊥) → out₁ ≡ out₀
+    refusal-keeps-output n = let q = refusal-silent (λ t. n (number-told ∙ t)) in d .output ∙ rw (q .1, q .2) (put-nil out₀)
 
     -- and so is the store, but for 11
-    pub refusal-keeps-store : isActedOn (r .told) ≡ false → store₁ ≡ store₀
-    refusal-keeps-store n =
-        d .store ∙ rw (refusal-stores-none (ap (λ (x : Stepped). isActedOn (x .told)) (sym (d .reply)) ∙ n)) (put-nil store₀)
-
--- ---- what is not sent or stored stays
-
--- behind what is put over its front a list is as it was
-put-behind : (xs d : List ℕ) (n : ℕ) → n ≡ length xs → drop n (put xs d) ≡ drop n d
-unfolding put
-put-behind xs d n e = rw e (drop-append-seam xs (drop (length xs) d))
-
-module _ {o : Outcome} {out₀ out₁ store₀ store₁ : List ℕ} {r : Stepped} (d : Did o out₀ store₀ r out₁ store₁) where
-  -- the output changes only where octets are sent
-  pub output-behind : drop (r .first + r .second) out₁ ≡ drop (r .first + r .second) out₀
-  output-behind =
-      rw (d .output) (put-behind (o .first ++ o .second) out₀ (r .first + r .second) (rw (d .reply) (sym (length-append (o .first) (o .second)))))
-
-  -- and the store only where octets are stored
-  pub store-behind : drop (r .stored) store₁ ≡ drop (r .stored) store₀
-  store-behind = rw (d .store) (put-behind (o .stored) store₀ (r .stored) (rw (d .reply)))
+    pub refusal-keeps-store : (toldNo (r .told) ≡ 0 → ⊥) → (toldNo (r .told) ≡ 11 → ⊥) → store₁ ≡ store₀
+    refusal-keeps-store n e =
+        let idle : isActedOn (steps p g .told) ≡ false =
+            rw (ne-eqb (steps p g .told) 0 (λ t. n (number-told ∙ t)), ne-eqb (steps p g .told) 11 (λ t. e (number-told ∙ t))) in
+        d .store ∙ rw (refusal-stores-none idle) (put-nil store₀)

@@ -1,7 +1,7 @@
 -- Two messages in which the station sees the same lead to the same step, and a message and its struck form are such. What striking
 -- leaves, and what the operation that strikes tells.
 -- Assumes nothing.
-use Prim.Native.Nat.{ℕ, _≤_}
+use Prim.Native.Nat.{ℕ, zero, suc, _≤_}
 use mathlib.Core.Bool.{Bool, true, false}
 use mathlib.Core.List.{List, [], _∷_, _++_}
 use mathlib.Core.Path.{_≡_, refl, sym, ap, _∙_}
@@ -37,8 +37,6 @@ use Rattle.strike.proofs.StrikingForm.{struck-is-well-formed, struck-type, stru
 use Rattle.strike.proofs.StrikingMeaning.{named-stay, standard-of-ms}
 use Rattle.choice.specs.Wishes.{wishesOf}
 use Rattle.choice.specs.Judging.{verdict}
-use Rattle.choice.specs.declared.Verdict.{Verdict}
-use Rattle.choice.specs.declared.Verdict.the-variants.{Accepted, NotReady, NoFit}
 use Rattle.table.specs.declared.Phase.{Phase}
 use Rattle.table.specs.declared.Kind.{Kind}
 use Rattle.table.specs.declared.Heard.the-variants.{GotMs, GotCl, GotClr, GotAck1, GotAck2, GotNak}
@@ -164,10 +162,9 @@ module _ {m m′ : List ℕ} (a : Alike m m′) where
     unfolding storedMode kept
     kept-alike = rw mode-alike
 
-    judge-alike : (v : Verdict) (time : ℕ) → judges v m time ≡ judges v m′ time
-    judge-alike Accepted time = rw (asks-alike, kept-alike)
-    judge-alike NotReady time = refl
-    judge-alike NoFit time = refl
+    judge-alike : (v time : ℕ) → judges v m time ≡ judges v m′ time
+    judge-alike zero time = rw (asks-alike, kept-alike)
+    judge-alike (suc k) time = refl
 
   -- ---- the step
 

@@ -93,11 +93,11 @@ standardHeard g = codesIn Standard (g .field) (standardAt (g .field))
 
 -- success and 11: the event was acted on
 abbrev pub isActedOn : ℕ → Bool
-isActedOn no = pick (eqb no 0) true (eqb no 11)
+isActedOn n = pick (eqb n 0) true (eqb n 11)
 
 -- every refusal but 6 and 11 leaves the phase
 abbrev pub isKept : ℕ → Bool
-isKept no = pick (eqb no 0) false (pick (eqb no 6) false (not (eqb no 11)))
+isKept n = pick (eqb n 0) false (pick (eqb n 6) false (not (eqb n 11)))
 
 -- ---- steps one after the other
 

@@ -38,13 +38,13 @@ NoneSuits far g = (w : Wish) → List·Memᴰ w (wishesOf (g .run)) → suits (s
 
 -- the MS of the first wish that suits is sent, and Proposed is next; 11 where none does: nothing is sent, and Initial is next
 pub data SendsMs (far : Far) (stored : List ℕ) (g : Given) (o : Outcome) : Type 0 where
-  first : (x : Proposal far g) → o ≡ sends (x .ms) [] stored (proposedBy x) → SendsMs far stored g o
-  none : NoneSuits far g → o ≡ stays 11 stored (g .time) → SendsMs far stored g o
+  ms-first : (x : Proposal far g) → o ≡ sends (x .ms) [] stored (proposedBy x) → SendsMs far stored g o
+  ms-none : NoneSuits far g → o ≡ stays 11 stored (g .time) → SendsMs far stored g o
 
 -- the same with a CL before the MS
 pub data SendsClMs (far : Far) (stored : List ℕ) (g : Given) (o : Outcome) : Type 0 where
-  first : (x : Proposal far g) (cl : List ℕ) → IsCl g cl → o ≡ sends cl (x .ms) stored (proposedBy x) → SendsClMs far stored g o
-  none : NoneSuits far g → o ≡ stays 11 stored (g .time) → SendsClMs far stored g o
+  cl-ms-first : (x : Proposal far g) (cl : List ℕ) → IsCl g cl → o ≡ sends cl (x .ms) stored (proposedBy x) → SendsClMs far stored g o
+  cl-ms-none : NoneSuits far g → o ≡ stays 11 stored (g .time) → SendsClMs far stored g o
 
 -- the acts of the table that propose, each with the far list that it goes by
 pub data Proposing (g : Given) : Act → Far → Type 0 where
@@ -87,8 +87,8 @@ pub data Judged (g : Given) (o : Outcome) : Type 0 where
       → o ≡ sends (0x24 ∷ []) [] stored (Mode (g .time) 0 true) → Judged g o
   unasked : (f : Fits g) → f .wish .ready ≡ true → (stored : List ℕ) → IsField (standardHeard g) stored → farSays 4 g ≡ false
       → o ≡ sends [] [] stored (Mode (g .time) 0 false) → Judged g o
-  not-ready : Fits g → ((f : Fits g) → f .wish .ready ≡ false) → o ≡ sends (0x29 ∷ []) [] [] (Initial (g .time)) → Judged g o
-  no-fit : (Fits g → ⊥) → o ≡ sends (0x2a ∷ []) [] [] (Initial (g .time)) → Judged g o
+  unready : Fits g → ((f : Fits g) → f .wish .ready ≡ false) → o ≡ sends (0x29 ∷ []) [] [] (Initial (g .time)) → Judged g o
+  unfit : (Fits g → ⊥) → o ≡ sends (0x2a ∷ []) [] [] (Initial (g .time)) → Judged g o
 
 -- ---- Mode is reached
 
