@@ -1,7 +1,7 @@
 -- To be believed: the own table and the wishes as they are lent for a step, document 01's refusals 2, 3 and 4.
 -- Assumes nothing.
 use Prim.Native.Nat.{ℕ}
-use mathlib.Core.Bool.{Bool, true, false, not}
+use mathlib.Core.Bool.{Bool, true, not}
 use mathlib.Core.List.{List, [], _∷_}
 use Rattle.octets.specs.Places.{pick}
 use Rattle.tree.specs.Fields.{allIn}

@@ -4,7 +4,6 @@ use Prim.Native.Nat.{ℕ, _+_}
 use mathlib.Core.Bool.{Bool, true, false, not}
 use mathlib.Core.List.{List, [], _∷_, _++_}
 use lib.ListN.{take, drop}
-use Rattle.octets.specs.Places.{pick}
 use Rattle.tree.specs.Codes.{codeOf}
 use Rattle.writer.specs.Minimal.{both}
 use Rattle.writer.specs.Writer.{messageOctets}

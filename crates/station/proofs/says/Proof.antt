@@ -1,13 +1,12 @@
 -- `station::says` meets its contract: codes of I are looked for in I alone.
 -- Assumes nothing.
-use Prim.Native.Nat.{_+_, _<_}
-use mathlib.Core.Path.{_≡_, _∙_}
+use Prim.Native.Nat.{_+_}
+use mathlib.Core.Path.{_∙_}
 use native.Mathlib.Omega.{arith}
 use borrow.Author.Needs.{needs}
 use borrow.Author.Tests.{lt-ltb}
 use Rattle.tree.specs.Codes.{fieldBase}
-use Rattle.tree.specs.Fields.{isIn, codesIn, hasFirst}
-use Rattle.tree.specs.declared.Field.the-variants.{Identification}
+use Rattle.tree.specs.Fields.{hasFirst}
 use Rattle.station.proofs.FarSide.{said-first}
 use Rattle.station.proofs.says.Statement.{statement}
 use Rattle.station.proofs.says.Tie as tie
