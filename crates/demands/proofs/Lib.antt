@@ -4,6 +4,7 @@ pub mod Accepting
 pub mod StepLines
 pub mod StationBench
 pub mod StruckSteps
+pub mod UntouchedModes
 pub mod Revisions
 pub mod ListsReturn
 pub mod DemandOne
