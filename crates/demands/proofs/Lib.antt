@@ -8,6 +8,7 @@ pub mod CallsProved
 pub mod FieldsSent
 pub mod StationBench
 pub mod StruckSteps
+pub mod UntouchedModes
 pub mod Revisions
 pub mod ListsReturn
 pub mod DemandOne

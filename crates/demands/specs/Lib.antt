@@ -1,4 +1,5 @@
 pub mod Returning
+pub mod Stages
 pub mod Untouched
 pub mod Given
 pub mod Sent

@@ -5,4 +5,5 @@ pub mod Ascending
 pub mod Filling
 pub mod Within
 pub mod Modes
+pub mod Shifted
 pub mod Vectors
