@@ -6,6 +6,7 @@ pub mod StationBench
 pub mod StruckSteps
 pub mod Revisions
 pub mod ListsReturn
+pub mod Trips
 pub mod DemandOne
 pub mod DemandTwo
 pub mod DemandThree

@@ -1,0 +1,2 @@
+pub mod Returning
+pub mod Stages
