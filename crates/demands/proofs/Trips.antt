@@ -82,12 +82,13 @@ module _ (bits : List ℕ) (count : ℕ) (found₀ : List ℕ) (r : FrameRead) (
         omega (arith, accepted-is-frame bits count informationRoom (s .0) (s .1) .few)
 
     -- are read as a message
-    pub found-read : (back₀ : List ℕ) (m : MessageRead) (back₁ : List ℕ) → Reads (take size found₁) back₀ m back₁
+    pub found-read : (back₀ : List ℕ) (m : MessageRead) (back₁ : List ℕ) → Reads (take (size - 0) found₁) back₀ m back₁
         → (os : List ℕ) → readFrame bits count informationRoom ≡ information os → ReadsBack os back₀ (Back m) back₁
     found-read back₀ m back₁ x os i =
         let b : frameReader.Reads (readFrame bits count informationRoom) found₀ (frameRead.Octets size) found₁ = rw e at a in
+        let z : size - 0 ≡ size = omega arith in
         let t : take size found₁ ≡ os = information-left os found₀ (frameRead.Octets size) found₁ (rw i at b) in
-        record { read = m; answer = refl; reads = rw t at x }
+        record { read = m; answer = refl; reads = rw (z, t) at x }
 
 -- ---- from the message on
 
@@ -99,7 +100,7 @@ module _ (os : List ℕ) (flags : Flags) (bits₀ : List ℕ) (r : FrameWritten)
       record {
         unframed = λ k f. (refl, refl);
         framed = λ bs f.
-          absurd (h (length bs) (frameWriting.write-unique (frameWriter.sent bs) bits₀ r (frameWritten.Bits (length bs)) bits₁ (put (packed bs) bits₀) (rw f at a) (record { reply = refl; output = refl }) .0));
+            absurd (h (length bs) (frameWriting.write-unique (frameWriter.sent bs) bits₀ r (frameWritten.Bits (length bs)) bits₁ (put (packed bs) bits₀) (rw f at a) (record { reply = refl; output = refl }) .0));
       }
 
   -- where it did not, the frame is read
@@ -117,11 +118,11 @@ module _ (os : List ℕ) (flags : Flags) (bits₀ : List ℕ) (r : FrameWritten)
 
 -- ---- from the list on
 
-module _ (kind revision : ℕ) (list ns : List ℕ) (flags : Flags) (message₀ : List ℕ) (r : MessageWritten) (message₁ : List ℕ)
+module _ (kind revision : ℕ) (list ns message₀ : List ℕ) (r : MessageWritten) (message₁ : List ℕ)
     (a : messageWriter.Writes (writeMessage kind revision list ns mostOctets) message₀ r message₁) where
   -- where the message writer refused, the trip ends
-  pub writing-refused : ((n : ℕ) → r ≡ messageWritten.Octets n → ⊥) → (back : List ℕ) → ReturnsList kind revision list ns flags back Unwritten back
-  writing-refused h back =
+  pub writing-refused : (flags : Flags) → ((n : ℕ) → r ≡ messageWritten.Octets n → ⊥) → (back : List ℕ) → ReturnsList kind revision list ns flags back Unwritten back
+  writing-refused flags h back =
       record {
         unwritten = λ k w. (refl, refl);
         unframed = λ os k w f. absurd (never os w);
@@ -145,8 +146,8 @@ module _ (kind revision : ℕ) (list ns : List ℕ) (flags : Flags) (message₀ 
     written-size = omega (arith, written .2, sent-writable kind revision list ns mostOctets (written .0) (written .1) .few)
 
     -- and the list comes back
-    pub writing-returned : (back₀ : List ℕ) (t : Trip) (back₁ : List ℕ) → FramesBack (take size message₁) flags back₀ t back₁ → ReturnsList kind revision list ns flags back₀ t back₁
-    writing-returned back₀ t back₁ x =
+    pub writing-returned : (flags : Flags) (back₀ : List ℕ) (t : Trip) (back₁ : List ℕ) → FramesBack (take (size - 0) message₁) flags back₀ t back₁ → ReturnsList kind revision list ns flags back₀ t back₁
+    writing-returned flags back₀ t back₁ x =
         record {
           unwritten = λ k w. absurd (let v = written .1 in let z : _≡_ {A = ℕ} 0 1 = cc in omega arith);
           unframed = λ os k w f. here os w .unframed k f;
@@ -155,7 +156,7 @@ module _ (kind revision : ℕ) (list ns : List ℕ) (flags : Flags) (message₀ 
         }
       where
         here : (os : List ℕ) → writeMessage kind revision list ns mostOctets ≡ messageWriter.sent os → FramesBack os flags back₀ t back₁
-        here os w = let v = written .1 in let y = written .3 in let same : take size message₁ ≡ os = cc in rw same at x
+        here os w = let v = written .1 in let y = written .3 in let z : size - 0 ≡ size = omega arith in let same : take size message₁ ≡ os = cc in rw (z, same) at x
 
         came : (os : List ℕ) → ReadsBack os back₀ t back₁ → (m : MessageRead) (back : List ℕ) → Reads os back₀ m back → (t ≡ Back m) × (back₁ ≡ back)
         came os b m back y = let u = read-unique os back₀ (b .read) m back₁ back (b .reads) y in (b .answer ∙ ap Back (u .0), u .1)

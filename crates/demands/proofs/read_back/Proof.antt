@@ -1,50 +1,46 @@
+-- `demands::read_back` meets its contract: where information is read, its octets are read as a message.
+-- Assumes nothing.
+use mathlib.Core.List.{[], _∷_}
+use native.Mathlib.Omega.{arith}
 use borrow.Author.Needs.{needs}
+use types.Run.{miss}
+use Rattle.demands.proofs.Trips.{found-told, found-size, found-read}
 use Rattle.demands.proofs.read_back.Statement.{statement}
 use Rattle.demands.proofs.read_back.Tie as tie
-use Rattle.demands.proofs.read_back.Reads as reads
-use Rattle.demands.proofs.read_back.Lts as lts
-use Rattle.frame.proofs.read_frame.Reads as read-frame-reads
-use Rattle.message.proofs.read_message.Reads as read-message-reads
 
--- src/lib.rt:38:59
 slice-aggregate-read-frame : tie.Need-slice-aggregate-read-frame
 slice-aggregate-read-frame c = search needs
 
--- src/lib.rt:38:35
 read-frame-requires : tie.Need-read-frame-requires
 read-frame-requires c κs = search needs
 
--- src/lib.rt:38:27
 enum-known-size : tie.Need-enum-known-size
 enum-known-size c = search needs
 
--- src/lib.rt:39:9
 returns : tie.Need-returns
-returns c = ?
+returns c = λ os i. absurd (miss (1 ∷ 2 ∷ 3 ∷ 4 ∷ 5 ∷ 6 ∷ []) 0 tt (rw (found-told _ _ _ _ _ (c .before .before .read-frame .ensures) os i) at (c .match .keys2)))
 
--- src/lib.rt:41:29
 sub-read-message : tie.Need-sub-read-message
 sub-read-message c = search needs
 
--- src/lib.rt:41:29
 part-read-message-start : tie.Need-part-read-message-start
 part-read-message-start c = search needs
 
--- src/lib.rt:41:29
 part-read-message-end : tie.Need-part-read-message-end
-part-read-message-end c = ?
+part-read-message-end c =
+    let b = c .before .before in
+    omega (arith, found-size _ _ _ _ _ (b .before .before .before .read-frame .ensures) (b .size .given .0 .0) (b .size .given .1))
 
--- src/lib.rt:41:16
 read-message-requires : tie.Need-read-message-requires
 read-message-requires c κs = search needs
 
--- src/lib.rt:33:1
 same-length : tie.Need-same-length
 same-length c = search needs
 
--- src/lib.rt:33:1
 returns-2 : tie.Need-returns-2
-returns-2 c = ?
+returns-2 c =
+    let b = c .before .before .before .before .before .before .before in
+    found-read _ _ _ _ _ (b .before .before .before .read-frame .ensures) (b .size .given .0 .0) (b .size .given .1) _ _ _ (c .before .before .read-message .ensures)
 
 pub read-back-spec : {M : Type 1} → statement M
 read-back-spec =
