@@ -22,10 +22,9 @@ use Rattle.frame.specs.Writer as frameWriter
 use Rattle.frame.specs.declared.FrameRead.{FrameRead}
 use Rattle.frame.specs.declared.FrameWritten.{FrameWritten}
 use Rattle.exact.proofs.Exact as frames
-use Rattle.message.specs.Kinds.{known, typeOf, revisionOf}
-use Rattle.message.specs.Reader.{listRoom, messageCodes, hasNs, tailAt, accepted, readMessage, nsTold}
+use Rattle.message.specs.Kinds.{known}
+use Rattle.message.specs.Reader.{listRoom, hasNs, tailAt, accepted, nsTold}
 use Rattle.message.specs.Reader as messageReader
-use Rattle.message.specs.declared.MessageRead.{MessageRead}
 use Rattle.message.proofs.Accepted.{success-writes, success-ns}
 use Rattle.writer.specs.Meaning.{allShaped, ascending, allParented}
 use Rattle.writer.specs.Writer.{endsThere, nsAgrees, messageOctets, checkedWriting, listWriting, writeMessage}

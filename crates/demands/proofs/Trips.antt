@@ -74,14 +74,14 @@ module _ (bits : List ℕ) (count : ℕ) (found₀ : List ℕ) (r : FrameRead) (
       frameReading.read-unique (information os) found₀ r (frameRead.Octets (length os)) found₁ (put os found₀) (rw i at a) (record { reply = refl; output = refl }) .0
 
   module _ (size : ℕ) (e : r ≡ frameRead.Octets size) where
-    -- as many octets as are told
+    -- the octets told of are all in the buffer
     pub found-size : size ≤ mostInformation
     found-size =
         let s = frameReading.read-success-writes bits count informationRoom found₀ r found₁ a (rw e) in
         let n : size ≡ length (s .0) = cc (s .3) in
         omega (arith, accepted-is-frame bits count informationRoom (s .0) (s .1) .few)
 
-    -- are read as a message
+    -- and are read as a message
     pub found-read : (back₀ : List ℕ) (m : MessageRead) (back₁ : List ℕ) → Reads (take (size - 0) found₁) back₀ m back₁
         → (os : List ℕ) → readFrame bits count informationRoom ≡ information os → ReadsBack os back₀ (Back m) back₁
     found-read back₀ m back₁ x os i =
