@@ -61,11 +61,11 @@ use Rattle.demands.proofs.Proposing.{NoneSuits, Proposal, Proposes}
 use Rattle.demands.proofs.Proposing as proposing
 use Rattle.demands.proofs.Accepting.{Reaches}
 use Rattle.demands.proofs.Accepting as accepting
-use Rattle.demands.proofs.ListsReturn.{Tells, FourCalls, ComesBack}
+use Rattle.demands.specs.Returning.{Tells, FourCalls, ComesBack}
 use Rattle.demands.proofs.ListsReturn as returning
 
 -- `steps p g` is the step from the phase p with what g holds; Sound, Due and Passes say that no refusal up to 4, up to 10 in Mode, or
--- before the table comes (Following.antt); Tells, FourCalls and ComesBack stand in ListsReturn.antt
+-- before the table comes (Following.antt); Tells, FourCalls and ComesBack stand in Returning.antt
 pub record DemandTwo : Type 0 where
   -- Frames: a run that the frame reader accepts is a frame of the information given: flags, inserted zeros and FCS as 7.2 says
   pub accepted-is-frame : (run : List ℕ) (count room : ℕ) (os : List ℕ) → readFrame run count room ≡ information os → IsFrame (take count (bits run)) os

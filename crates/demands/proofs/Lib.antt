@@ -11,6 +11,7 @@ pub mod StruckSteps
 pub mod UntouchedModes
 pub mod Revisions
 pub mod ListsReturn
+pub mod Trips
 pub mod DemandOne
 pub mod DemandTwo
 pub mod DemandThree

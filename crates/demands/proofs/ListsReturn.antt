@@ -22,23 +22,18 @@ use Rattle.frame.specs.Writer as frameWriter
 use Rattle.frame.specs.declared.FrameRead.{FrameRead}
 use Rattle.frame.specs.declared.FrameWritten.{FrameWritten}
 use Rattle.exact.proofs.Exact as frames
-use Rattle.message.specs.Kinds.{known, typeOf, revisionOf}
-use Rattle.message.specs.Reader.{listRoom, messageCodes, hasNs, tailAt, accepted, readMessage, nsTold}
+use Rattle.message.specs.Kinds.{known}
+use Rattle.message.specs.Reader.{listRoom, hasNs, tailAt, accepted, nsTold}
 use Rattle.message.specs.Reader as messageReader
-use Rattle.message.specs.declared.MessageRead.{MessageRead}
 use Rattle.message.proofs.Accepted.{success-writes, success-ns}
 use Rattle.writer.specs.Meaning.{allShaped, ascending, allParented}
 use Rattle.writer.specs.Writer.{endsThere, nsAgrees, messageOctets, checkedWriting, listWriting, writeMessage}
 use Rattle.writer.specs.Writer as messageWriter
 use Rattle.writer.specs.declared.MessageWritten.{MessageWritten}
-use Rattle.writer.proofs.RoundTrip.{nsOf, sent-writable, written-is-read, written-is-octets}
+use Rattle.writer.proofs.RoundTrip.{sent-writable, written-is-read, written-is-octets}
+use Rattle.demands.specs.Returning.{nsOf, Tells, FourCalls, ComesBack}
 
 -- ---- over the definitions
-
--- what the message reader finds in some octets: that they are accepted, and this type, revision, list and NS
-abbrev pub Tells : List ℕ → ℕ → ℕ → ℕ → List ℕ → List ℕ → Type 0
-Tells os room kind revision list ns =
-    (readMessage os room ≡ accepted) × (typeOf os ≡ kind) × (revisionOf os ≡ revision) × (messageCodes os ≡ list) × (nsOf os ≡ ns)
 
 module _ (kind revision : ℕ) (list ns : List ℕ) (room : ℕ) (os : List ℕ) (w : writeMessage kind revision list ns room ≡ messageWriter.sent os) where
   -- a message that is written fits a frame, with every legal flag count and in every output with room for a frame
@@ -107,7 +102,7 @@ unfolding put
 front-put xs d n e = rw e (take-append-seam xs (drop (length xs) d))
 
 -- where a message was written, its octets are the part that the reply tells
-message-left : (x : messageWriter.Writing) (out₀ : List ℕ) (r : MessageWritten) (out₁ : List ℕ) → (x ≡ messageWriter.declined 0 → ⊥) → messageWriter.Writes x out₀ r out₁
+pub message-left : (x : messageWriter.Writing) (out₀ : List ℕ) (r : MessageWritten) (out₁ : List ℕ) → (x ≡ messageWriter.declined 0 → ⊥) → messageWriter.Writes x out₀ r out₁
     → messageWriter.writeTold r .no ≡ 0
     → (os : List ℕ) × (x ≡ messageWriter.sent os) × (messageWriter.writeTold r .count ≡ length os) × (take (messageWriter.writeTold r .count) out₁ ≡ os)
 message-left (messageWriter.declined k) out₀ r out₁ n a h = absurd (n (ap messageWriter.declined (sym (ap (λ (y : messageWriter.Reply). y .no) (a .reply)) ∙ h)))
@@ -116,7 +111,7 @@ message-left (messageWriter.sent os) out₀ r out₁ n a h =
     (os, refl, e, rw (a .output) (front-put os out₀ (messageWriter.writeTold r .count) e))
 
 -- where a frame was written, the reader given the output and the bit count told looks at that frame
-frame-left : (x : frameWriter.Writing) (out₀ : List ℕ) (r : FrameWritten) (out₁ : List ℕ) → (x ≡ frameWriter.declined 0 → ⊥) → frameWriter.Writes x out₀ r out₁
+pub frame-left : (x : frameWriter.Writing) (out₀ : List ℕ) (r : FrameWritten) (out₁ : List ℕ) → (x ≡ frameWriter.declined 0 → ⊥) → frameWriter.Writes x out₀ r out₁
     → frameWriter.writeTold r .no ≡ 0
     → (bs : List Bool) × (x ≡ frameWriter.sent bs) × ((room : ℕ) → readFrame out₁ (frameWriter.writeTold r .count) room ≡ readFrame (put (packed bs) out₀) (length bs) room)
 frame-left (frameWriter.declined k) out₀ r out₁ n a h = absurd (n (ap frameWriter.declined (sym (ap (λ (y : frameReader.Reply). y .no) (a .reply)) ∙ h)))
@@ -124,11 +119,11 @@ frame-left (frameWriter.sent bs) out₀ r out₁ n a h =
     (bs, refl, λ room. rw (a .output, ap (λ (y : frameReader.Reply). y .count) (a .reply)))
 
 -- where information was read, it is the part that the reply tells
-information-left : (os out₀ : List ℕ) (r : FrameRead) (out₁ : List ℕ) → frameReader.Reads (information os) out₀ r out₁ → take (frameReader.readTold r .count) out₁ ≡ os
+pub information-left : (os out₀ : List ℕ) (r : FrameRead) (out₁ : List ℕ) → frameReader.Reads (information os) out₀ r out₁ → take (frameReader.readTold r .count) out₁ ≡ os
 information-left os out₀ r out₁ a = rw (a .output) (front-put os out₀ (frameReader.readTold r .count) (ap (λ (y : frameReader.Reply). y .count) (a .reply)))
 
 -- the NS of a message is what stands behind S, or nothing
-ns-behind : (l : List ℕ) → pick (hasNs l) (drop (tailAt l) l) [] ≡ nsOf l
+pub ns-behind : (l : List ℕ) → pick (hasNs l) (drop (tailAt l) l) [] ≡ nsOf l
 ns-behind l = go (hasNs l)
   where
     go : (t : Bool) → pick t (drop (tailAt l) l) [] ≡ take (pick t (length l - tailAt l) 0) (drop (pick t (tailAt l) 0) l)
@@ -136,46 +131,6 @@ ns-behind l = go (hasNs l)
     go false = refl
 
 -- ---- over the contracts
-
--- Four calls, one after the other, each with its `ensures`. Each is lent a buffer of its own, ₀ before the call and ₁ behind it, and is
--- given what the call before it left. Both writers tell success, and the readers' buffers have the room that document 01 asks for
-pub record FourCalls (kind revision : ℕ) (list ns : List ℕ) (opening closing : ℕ) : Type 0 where
-  -- the list and an NS of octets are written as a message
-  pub octets : AreOctets ns
-  pub message₀ : List ℕ
-  pub message₁ : List ℕ
-  pub written : MessageWritten
-  pub writes : messageWriter.Writes (writeMessage kind revision list ns (length message₀)) message₀ written message₁
-  pub success : messageWriter.writeTold written .no ≡ 0
-  -- the octets that it tells are framed
-  pub bits₀ : List ℕ
-  pub bits₁ : List ℕ
-  pub framed : FrameWritten
-  pub frames : frameWriter.Writes (writeFrame (take (messageWriter.writeTold written .count) message₁) opening closing (length bits₀)) bits₀ framed bits₁
-  pub framing : frameWriter.writeTold framed .no ≡ 0
-  -- the bits that it tells are read as a frame
-  pub information₀ : List ℕ
-  pub information₁ : List ℕ
-  pub unframed : FrameRead
-  pub unframes : frameReader.Reads (readFrame bits₁ (frameWriter.writeTold framed .count) (length information₀)) information₀ unframed information₁
-  pub informationSize : informationRoom ≤ length information₀
-  -- the octets that it tells are read as a message
-  pub list₀ : List ℕ
-  pub list₁ : List ℕ
-  pub read : MessageRead
-  pub reads : messageReader.Reads (take (frameReader.readTold unframed .count) information₁) list₀ read list₁
-  pub listSize : listRoom ≤ length list₀
-
--- What comes back: both readers tell success, the frame reader as many octets as the message writer, the message reader the type, the
--- revision, the length of the list and the NS; and the list stands at the front of the list buffer, which is unchanged behind it
-pub record ComesBack {kind revision : ℕ} {list ns : List ℕ} {opening closing : ℕ} (c : FourCalls kind revision list ns opening closing) : Type 0 where
-  pub unframed : frameReader.readTold (c .unframed) ≡ record { no = 0; count = messageWriter.writeTold (c .written) .count }
-  pub success : messageReader.readTold (c .read) .no ≡ 0
-  pub kindRead : messageReader.readTold (c .read) .kind ≡ kind
-  pub revisionRead : messageReader.readTold (c .read) .revision ≡ revision
-  pub count : messageReader.readTold (c .read) .count ≡ length list
-  pub listRead : c .list₁ ≡ put list (c .list₀)
-  pub nsRead : nsTold (c .read) (take (frameReader.readTold (c .unframed) .count) (c .information₁)) ≡ ns
 
 module _ {kind revision : ℕ} {list ns : List ℕ} {opening closing : ℕ} (c : FourCalls kind revision list ns opening closing) where
   -- a message was written, and it was framed, found and read
