@@ -1,113 +1,42 @@
--- Demand 3: a newer board can't confuse an older one. A message and its struck form give the same answer, octets, store and next state; a
--- mode with an unnamed parameter is declined; and the revision of a message decides nothing.
+-- Demand 3, proved.
 -- Assumes nothing.
-use Prim.Native.Nat.{ℕ, _≤_}
-use mathlib.Core.Bool.{true, false}
-use mathlib.Core.List.{List, [], _∷_}
-use mathlib.Core.Logic.{_⊎_, ⊎-elim}
-use mathlib.Core.Path.{_≡_}
+use mathlib.Core.Logic.{⊎-elim}
 use native.Mathlib.Omega.{arith}
-use lib.ListN.{length, getD, take, drop}
-use Rattle.octets.specs.Bits.{AreOctets}
-use Rattle.octets.specs.Lay.{put}
-use Rattle.tree.specs.Codes.{fieldBase, fieldCodes}
-use Rattle.tree.specs.Fields.{isIn}
-use Rattle.message.specs.Kinds.{hasFields, typeOf, revisionOf}
-use Rattle.message.specs.Reader.{listRoom, standardAt, messageCodes, nsPlace, nsSize, accepted, readMessage}
+use lib.ListN.{length}
 use Rattle.message.proofs.Revision.{same-reading, same-codes, same-ns}
-use Rattle.writer.specs.Minimal.{messageMinimal}
-use Rattle.names.specs.Named.{namedCode}
-use Rattle.names.specs.Masks.{only}
-use Rattle.strike.specs.Striking.{struckForm, struckTold, Strikes}
-use Rattle.strike.specs.declared.Struck.{Struck}
 use Rattle.strike.proofs.StruckForms.{struck-is-no-longer}
 use Rattle.strike.proofs.StrikingForm.{struck-is-well-formed, struck-is-minimal, struck-type, struck-revision, struck-ns}
 use Rattle.strike.proofs.StrikingMeaning.{striking-filters, standard-of-ms, identification-of-any}
-use Rattle.table.specs.declared.Phase.{Phase}
-use Rattle.table.specs.declared.Phase.the-variants.{Initial}
-use Rattle.table.specs.declared.Heard.the-variants.{GotMs}
-use Rattle.table.specs.declared.Act.the-variants.{Judge}
-use Rattle.table.specs.declared.Settings.{Settings}
-use Rattle.station.specs.Sending.{sentNak}
-use Rattle.station.specs.Acting.{sends}
-use Rattle.station.specs.Stepping.{stepOf, Did}
+use Rattle.station.specs.Stepping.{stepOf}
 use Rattle.station.specs.declared.Event.the-variants.{Field}
-use Rattle.station.specs.declared.Stepped.{Stepped}
 use Rattle.station.proofs.StepUnique.{step-unique}
-use Rattle.demands.proofs.Following.{Given, steps, actOn, modeHeard, Passes}
+use Rattle.demands.specs.DemandThree.{DemandThree}
 use Rattle.demands.proofs.Accepting.{unnamed-nak-3}
 use Rattle.demands.proofs.StruckSteps.{alike-steps, struck-alike, bare-struck, strikes-told}
+use Rattle.demands.proofs.UntouchedModes.{untouched-mode}
 use Rattle.demands.proofs.Revisions.{revisions-struck, revisions-answered}
-
-pub record DemandThree : Type 0 where
-  -- For every well-formed message (MS, CL, CLR, ACK, NAK): from the same phase, settings, own table, wishes, time and sizes of the buffers
-  -- the message and its struck form give the same outcome: what is told, the signal, both fields sent, what is stored, the next phase.
-  pub same-outcome : (p : Phase) (set : Settings) (own run m : List ℕ) (time outSize storeSize : ℕ) → AreOctets m → readMessage m listRoom ≡ accepted
-      → stepOf p set own run Field (struckForm m) time outSize storeSize ≡ stepOf p set own run Field m time outSize storeSize
-  -- So by the contract of `step` alone: whatever output and store are lent, both calls give the same reply and leave the same octets.
-  pub same-buffers : (p : Phase) (set : Settings) (own run m : List ℕ) (time : ℕ) (out₀ store₀ : List ℕ) (r r′ : Stepped) (out₁ out₁′ store₁ store₁′ : List ℕ)
-      → AreOctets m → readMessage m listRoom ≡ accepted
-      → Did (stepOf p set own run Field m time (length out₀) (length store₀)) out₀ store₀ r out₁ store₁
-      → Did (stepOf p set own run Field (struckForm m) time (length out₀) (length store₀)) out₀ store₀ r′ out₁′ store₁′
-      → (r ≡ r′) × (out₁ ≡ out₁′) × (store₁ ≡ store₁′)
-  -- The struck form is what the operation `strike_message` writes where it answers with success, by its contract alone.
-  pub struck-by-operation : (m out₀ : List ℕ) (r : Struck) (out₁ : List ℕ) → Strikes m out₀ r out₁ → struckTold r .no ≡ 0
-      → (readMessage m listRoom ≡ accepted) × (struckTold r .count ≡ length (struckForm m)) × (out₁ ≡ put (struckForm m) out₀)
-  -- Of a CL (type 2) or a CLR (3) the struck form has the named parameters, and no others.
-  pub list-struck : (m : List ℕ) → AreOctets m → readMessage m listRoom ≡ accepted → (typeOf m ≡ 2) ⊎ (typeOf m ≡ 3)
-      → messageCodes (struckForm m) ≡ only namedCode (messageCodes m)
-  -- Of an MS (type 1) the identification field has its named parameters and no others; the mode asked for, in the standard field, is all there.
-  pub mode-struck : (m : List ℕ) → readMessage m listRoom ≡ accepted → typeOf m ≡ 1
-      → (fieldCodes (fieldBase 1) (struckForm m) 1 ≡ only namedCode (fieldCodes (fieldBase 1) m 1))
-      × (fieldCodes (fieldBase 2) (struckForm m) (standardAt (struckForm m)) ≡ fieldCodes (fieldBase 2) m (standardAt m))
-  -- An ACK or a NAK, which has no fields, is its own struck form.
-  pub bare-unstruck : (m : List ℕ) → readMessage m listRoom ≡ accepted → hasFields (typeOf m) ≡ false → struckForm m ≡ m
-  -- The struck form is well-formed, minimal, of the same type and revision, with the same NS, and no longer than the message.
-  pub struck-stands : (m : List ℕ) → AreOctets m → readMessage m listRoom ≡ accepted
-      → (readMessage (struckForm m) listRoom ≡ accepted)
-      × (messageMinimal (struckForm m) ≡ true)
-      × (typeOf (struckForm m) ≡ typeOf m)
-      × (revisionOf (struckForm m) ≡ revisionOf m)
-      × (take (nsSize (struckForm m)) (drop (nsPlace (struckForm m)) (struckForm m)) ≡ take (nsSize m) (drop (nsPlace m) m))
-      × (length (struckForm m) ≤ length m)
-  -- Where an MS is due and nothing earlier is refused, one whose standard field has an unnamed parameter is declined with NAK(3): nothing is
-  -- stored, and the phase is Initial.
-  pub unnamed-declined : (p : Phase) (g : Given) → Passes p g GotMs → actOn p g GotMs ≡ Judge → (x : ℕ) → isIn x (modeHeard g) ≡ true → namedCode x ≡ false
-      → steps p g ≡ sends (sentNak 3) [] [] (Initial (g .time))
-  -- Revision decides nothing but the revision reported. Two messages that differ in it alone, so octet 1 is o or o′ and the type is the same,
-  -- are read alike: the same answer, the same codes, the same place and length of NS.
-  pub revision-read : (o o′ : ℕ) (l : List ℕ) (room : ℕ) → typeOf (o ∷ l) ≡ typeOf (o′ ∷ l)
-      → (readMessage (o ∷ l) room ≡ readMessage (o′ ∷ l) room)
-      × (messageCodes (o ∷ l) ≡ messageCodes (o′ ∷ l))
-      × (nsPlace (o ∷ l) ≡ nsPlace (o′ ∷ l))
-      × (nsSize (o ∷ l) ≡ nsSize (o′ ∷ l))
-  -- They are struck alike: the struck forms are the same behind octet 1, and each keeps its own octet 1.
-  pub revision-struck : (o o′ : ℕ) (l : List ℕ) → typeOf (o ∷ l) ≡ typeOf (o′ ∷ l) → readMessage (o ∷ l) listRoom ≡ accepted
-      → (drop 1 (struckForm (o ∷ l)) ≡ drop 1 (struckForm (o′ ∷ l))) × (getD (struckForm (o ∷ l)) 0 0 ≡ o) × (getD (struckForm (o′ ∷ l)) 0 0 ≡ o′)
-  -- They are answered alike, well-formed or not.
-  pub revision-answered : (p : Phase) (set : Settings) (own run : List ℕ) (o o′ : ℕ) (l : List ℕ) (time outSize storeSize : ℕ) → typeOf (o ∷ l) ≡ typeOf (o′ ∷ l)
-      → stepOf p set own run Field (o ∷ l) time outSize storeSize ≡ stepOf p set own run Field (o′ ∷ l) time outSize storeSize
 
 pub demand-three : DemandThree
 demand-three =
     record {
       same-outcome = λ p set own run m time outSize storeSize o e. alike-steps (struck-alike m o e) p set own run time outSize storeSize;
+      mode-untouched = untouched-mode;
       same-buffers =
-          λ p set own run m time out₀ store₀ r r′ out₁ out₁′ store₁ store₁′ o e d d′.
-          step-unique (stepOf p set own run Field m time (length out₀) (length store₀)) out₀ store₀ r r′ out₁ out₁′ store₁ store₁′ d
-          (rw (alike-steps (struck-alike m o e) p set own run time (length out₀) (length store₀)) at d′);
+          λ state set own run m time out₀ store₀ r r′ out₁ out₁′ store₁ store₁′ o e d d′.
+          step-unique (stepOf (state .phase) set own run Field m time (length out₀) (length store₀)) out₀ store₀ r r′ out₁ out₁′ store₁ store₁′ d
+          (rw (alike-steps (struck-alike m o e) (state .phase) set own run time (length out₀) (length store₀)) at d′);
       struck-by-operation = strikes-told;
-      list-struck = λ m o e t. striking-filters m listRoom o e (λ ms. ⊎-elim (λ two. omega arith) (λ three. omega arith) t);
-      mode-struck = λ m e ms. (identification-of-any m listRoom e (rw ms), standard-of-ms m listRoom e ms);
+      list-struck = λ m o e t. striking-filters m 448 o e (λ ms. ⊎-elim (λ two. omega arith) (λ three. omega arith) t);
+      mode-struck = λ m e ms. (identification-of-any m 448 e (rw ms), standard-of-ms m 448 e ms);
       bare-unstruck = bare-struck;
       struck-stands =
           λ m o e. (
-            struck-is-well-formed m listRoom o e listRoom (omega arith),
-            struck-is-minimal m listRoom o e,
-            struck-type m listRoom o e,
-            struck-revision m listRoom o e,
-            struck-ns m listRoom o e,
-            struck-is-no-longer m listRoom o e,
+            struck-is-well-formed m 448 o e 448 (omega arith),
+            struck-is-minimal m 448 o e,
+            struck-type m 448 o e,
+            struck-revision m 448 o e,
+            struck-ns m 448 o e,
+            struck-is-no-longer m 448 o e,
           );
       unnamed-declined = λ p g s j x i n. unnamed-nak-3 p g s j x i n;
       revision-read = λ o o′ l room q. (same-reading o o′ q l room, same-codes o o′ q l, same-ns o o′ q l .0, same-ns o o′ q l .1);

@@ -1,7 +1,7 @@
 -- The bench positions of document 01 that speak of the station: one list, computed from the definition of a step.
 -- Assumes nothing.
 use Prim.Native.Nat.{ℕ}
-use mathlib.Core.Bool.{true, false}
+use mathlib.Core.Bool.{true}
 use mathlib.Core.List.{List, [], _∷_}
 use mathlib.Core.Path.{_≡_, refl}
 use Rattle.tree.specs.Block.{setBits, blockNumbers, blockEnd}
@@ -21,28 +21,20 @@ use Rattle.choice.specs.Choosing.{firstSuiting, choice}
 use Rattle.choice.specs.Judging.{fitsSome, fitsReady, verdict}
 use Rattle.choice.specs.Tables.{allInside}
 use Rattle.choice.specs.Wishes.{wishesIn, goodRecords}
-use Rattle.table.specs.declared.OnCrD.the-variants.{WithCl}
-use Rattle.table.specs.declared.OnCrE.the-variants.{AsOnCrD}
-use Rattle.table.specs.declared.OnMrD.the-variants.{ByMs}
-use Rattle.table.specs.declared.OnMrE.the-variants.{WithMs}
 use Rattle.table.specs.declared.Phase.{Phase}
 use Rattle.table.specs.declared.Phase.the-variants.{Initial, AskedD, ListsD, Proposed, Mode}
-use Rattle.table.specs.declared.Settings.{Settings}
 use Rattle.station.specs.Sending.{offerCodes, sentField, sentMode}
 use Rattle.station.specs.Acting.{Outcome, quiet, sends, farList, farOffer, asksAck, storedList, storedMode}
 use Rattle.station.specs.Stepping.{timed, checked, stepOf}
 use Rattle.station.specs.declared.Event.the-variants.{Field}
-use Rattle.station.specs.declared.Told.the-variants.{TimedOut}
+use Rattle.demands.specs.PositionsProved.{settings}
 
--- the wish of the bench is the own table too; V.8 is offered, and ACK(1) asked
+-- the wish of the bench is the own table too
 abbrev field : List ℕ
 field = 0x80 ∷ 0x81 ∷ 0x02 ∷ 0xd0 ∷ []
 
 abbrev wish : List ℕ
 wish = 0x01 ∷ 0x04 ∷ field
-
-abbrev pub settings : Settings
-settings = record { eight = true; short = false; ack = true; mre = WithMs; crd = WithCl; cre = AsOnCrD; mrd = ByMs }
 
 -- the CL of the listing example, which offers V.8, and the MS that the wish gives
 abbrev list : List ℕ
@@ -59,7 +51,7 @@ pub record Positions : Type 0 where
   -- to the CL the MS is sent, 5000 milliseconds after entry too; then the time is out
   pub proposed : hears (ListsD 0) list 20 ≡ sends mode [] (0x80 ∷ 0xa1 ∷ 0x02 ∷ 0xd0 ∷ 0xc0 ∷ []) (Proposed 20 1 true)
   pub in-time : hears (ListsD 0) list 5000 ≡ sends mode [] (0x80 ∷ 0xa1 ∷ 0x02 ∷ 0xd0 ∷ 0xc0 ∷ []) (Proposed 5000 1 true)
-  pub late : hears (ListsD 0) list 5001 ≡ quiet TimedOut (Initial 5001)
+  pub late : hears (ListsD 0) list 5001 ≡ quiet 6 (Initial 5001)
   -- that MS is acknowledged; one that the wish does not hold is NAK(3)
   pub acknowledged : hears (AskedD 0) mode 20 ≡ sends (0x24 ∷ []) [] field (Mode 20 0 true)
   pub refused : hears (AskedD 0) (0x21 ∷ 0x80 ∷ 0x80 ∷ 0x80 ∷ 0x81 ∷ 0x02 ∷ 0xd8 ∷ []) 20 ≡ sends (0x2a ∷ []) [] [] (Initial 20)
