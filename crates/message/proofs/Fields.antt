@@ -11,7 +11,8 @@ use lib.ListN.{length}
 use Rattle.octets.specs.Places.{pick}
 use Rattle.tree.specs.Codes.{fieldBehind}
 use Rattle.tree.specs.Form.{andThen, isFine, fieldForm}
-use Rattle.tree.specs.Fields.{formIn, Reaches}
+use Rattle.tree.specs.Fields.{formIn}
+use Rattle.tree.specs.Inner.{Reaches}
 use Rattle.tree.specs.declared.Form.{Form}
 use Rattle.tree.specs.declared.Form.the-variants.{Fine, Left}
 use Rattle.tree.specs.declared.Reach.{Reach}
