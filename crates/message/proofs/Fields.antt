@@ -18,7 +18,8 @@ use Rattle.tree.specs.declared.Form.the-variants.{Fine, Left}
 use Rattle.tree.specs.declared.Reach.{Reach}
 use Rattle.tree.proofs.Forms.{is-fine, and-bad, and-parts, form-in, field-fits}
 use Rattle.message.specs.Nonstandard.{nsAnnounced, tailForm}
-use Rattle.message.specs.Reader.{standardAt, tailAt, Shapes}
+use Rattle.message.specs.Reader.{standardAt, tailAt}
+use Rattle.message.specs.Inner.{Shapes}
 use Rattle.message.specs.declared.Shape.{Shape}
 
 -- the form of all of it
