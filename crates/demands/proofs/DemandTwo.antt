@@ -20,13 +20,12 @@ use Rattle.exact.proofs.Exact as exact
 use Rattle.tree.specs.Codes.{fieldBase, fieldCodes}
 use Rattle.tree.specs.declared.Form.the-variants.{Fine}
 use Rattle.message.specs.Kinds.{known, typeOf, revisionOf}
-use Rattle.message.specs.Reader.{mostOctets, listRoom, standardAt, messageForm, messageCodes, accepted, readMessage}
+use Rattle.message.specs.Reader.{mostOctets, listRoom, standardAt, messageForm, messageCodes, nsOf, accepted, readMessage}
 use Rattle.message.proofs.Accepted.{accepted-passed}
 use Rattle.writer.specs.Meaning.{allShaped, ascending, allParented}
 use Rattle.writer.specs.Minimal.{messageMinimal}
-use Rattle.writer.specs.Writer.{sent, writeMessage}
+use Rattle.writer.specs.Writer.{sent, writeMessage, Writable}
 use Rattle.writer.proofs.RoundTrip as again
-use Rattle.writer.proofs.RoundTrip.{nsOf, Writable}
 use Rattle.names.specs.Masks.{only}
 use Rattle.names.specs.Named.{namedCode}
 use Rattle.strike.specs.Striking.{struckForm}

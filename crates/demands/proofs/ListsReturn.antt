@@ -23,7 +23,7 @@ use Rattle.frame.specs.declared.FrameRead.{FrameRead}
 use Rattle.frame.specs.declared.FrameWritten.{FrameWritten}
 use Rattle.exact.proofs.Exact as frames
 use Rattle.message.specs.Kinds.{known, typeOf, revisionOf}
-use Rattle.message.specs.Reader.{listRoom, messageCodes, hasNs, tailAt, accepted, readMessage, nsTold}
+use Rattle.message.specs.Reader.{listRoom, messageCodes, hasNs, tailAt, nsOf, accepted, readMessage, nsTold}
 use Rattle.message.specs.Reader as messageReader
 use Rattle.message.specs.declared.MessageRead.{MessageRead}
 use Rattle.message.proofs.Accepted.{success-writes, success-ns}
@@ -31,7 +31,7 @@ use Rattle.writer.specs.Meaning.{allShaped, ascending, allParented}
 use Rattle.writer.specs.Writer.{endsThere, nsAgrees, messageOctets, checkedWriting, listWriting, writeMessage}
 use Rattle.writer.specs.Writer as messageWriter
 use Rattle.writer.specs.declared.MessageWritten.{MessageWritten}
-use Rattle.writer.proofs.RoundTrip.{nsOf, sent-writable, written-is-read, written-is-octets}
+use Rattle.writer.proofs.RoundTrip.{sent-writable, written-is-read, written-is-octets}
 
 -- ---- over the definitions
 

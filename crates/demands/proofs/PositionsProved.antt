@@ -11,10 +11,9 @@ use Rattle.exact.proofs.Vectors.{ff-ff}
 use Rattle.tree.specs.Codes.{codeOf}
 use Rattle.tree.proofs.Vectors.{code-of, nothingSet}
 use Rattle.message.specs.Kinds.{typeOf, revisionOf}
-use Rattle.message.specs.Reader.{messageCodes, refused, accepted, readMessage}
+use Rattle.message.specs.Reader.{messageCodes, nsOf, refused, accepted, readMessage}
 use Rattle.message.proofs.Bench.{positions}
 use Rattle.writer.specs.Writer.{sent, writeMessage}
-use Rattle.writer.proofs.RoundTrip.{nsOf}
 use Rattle.writer.proofs.Vectors as written
 use Rattle.strike.specs.Striking.{strikeMessage}
 use Rattle.strike.proofs.StrikingBench as struck
