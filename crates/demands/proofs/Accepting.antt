@@ -65,6 +65,10 @@ mode-judged g few = go (verdicts g) refl
     go fits-unready e = let f = not-ready (standardHeard g) (wishesOf (g .run)) e in unready (f .0) (f .1) (rw (nak-octet 2))
     go fits-none e = unfit (no-fit (standardHeard g) (wishesOf (g .run)) e) (rw (nak-octet 3))
 
+-- in a step: only a message that was accepted is judged, so it has at most 64 octets
+pub judged : (p : Phase) (g : Given) {h : Heard} → Passes p g h → actOn p g h ≡ Judge → Judged g (steps p g)
+judged p g {h} s j = rw (follows p g s ∙ rw j) (mode-judged g (judged-few p g s j))
+
 -- one with a parameter that is not named gets NAK(3)
 pub unnamed-nak-3 : (p : Phase) (g : Given) {h : Heard} → Passes p g h → actOn p g h ≡ Judge → (x : ℕ) → isIn x (standardHeard g) ≡ true → namedCode x ≡ false
     → steps p g ≡ sends (0x2a ∷ []) [] [] (Initial (g .time))

@@ -1,7 +1,7 @@
 -- Demand 1, proved: most contracts are equations, the others have laws of their own.
 -- Assumes nothing.
 use Prim.Native.Nat.{ℕ}
-use mathlib.Core.List.{List}
+use mathlib.Core.List.{List, []}
 use mathlib.Core.Path.{_≡_}
 use lib.ListN.{length}
 use Rattle.octets.proofs.Unique as unique
@@ -18,10 +18,12 @@ use Rattle.tree.specs.declared.Field.the-variants.{Standard}
 use Rattle.choice.specs.Wishes.{wishesOf, standardCodes}
 use Rattle.choice.specs.Choosing.{unheard, farCodes}
 use Rattle.choice.proofs.ChoiceUnique.{tables-unique, choice-unique, verdict-unique}
+use Rattle.table.specs.declared.Settings.{Settings}
 use Rattle.station.specs.Stepping.{stepOf}
+use Rattle.station.specs.declared.Event.{Event}
 use Rattle.station.proofs.StepUnique.{step-unique}
 use Rattle.chip.proofs.ChipUnique.{frame-read-unique, frame-write-unique, message-read-unique}
-use Rattle.demands.specs.Calls.{given}
+use Rattle.demands.specs.Given.{Given}
 use Rattle.demands.specs.DemandOne.{OneReply, OneContent, DemandOne}
 use Rattle.demands.proofs.StepLines.{refusal-keeps-output, refusal-keeps-store}
 use Rattle.demands.proofs.Trips.{returns-unique}
@@ -32,6 +34,11 @@ by-equation r r′ e e′ = unique.one-reply e e′
 
 by-equations : {A : Type 0} {x : A} {b : List ℕ} → OneContent (λ r c. (r ≡ x) × (c ≡ b))
 by-equations r r′ c c′ e e′ = (unique.one-reply (e .0) (e′ .0), unique.one-reply (e .1) (e′ .1))
+
+-- what a call of `step` is given
+abbrev called : Settings → List ℕ → List ℕ → Event → List ℕ → ℕ → List ℕ → List ℕ → Given
+called set own run event m time out store =
+    record { set = set; own = own; run = run; event = event; field = m; time = time; outSize = length out; storeSize = length store }
 
 pub demand-one : DemandOne
 demand-one =
@@ -86,7 +93,7 @@ demand-one =
       exported-read-frame = λ run bits out. frame-read-unique run bits out;
       exported-write-frame = λ information opening closing out. frame-write-unique information opening closing out;
       exported-read-message = λ message list. message-read-unique message list;
-      there-and-back = λ kind revision list ns flags back. returns-unique;
+      there-and-back = returns-unique;
       read-frame-refusal = λ run count out. frameReading.read-refusal-writes-nothing (readFrame run count (length out)) out;
       write-frame-refusal = λ info opening closing out. frameWriting.write-refusal-writes-nothing (writeFrame info opening closing (length out)) out;
       read-message-refusal = messageReading.refusal-writes-nothing;

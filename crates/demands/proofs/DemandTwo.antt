@@ -80,6 +80,6 @@ demand-two =
       proposed-own = proposing.proposed-own;
       proposed-common = proposing.proposed-common;
       mode-reached = accepting.mode-reached;
-      judged = λ p g h s j. ?;
+      judged = λ p g h. accepting.judged p g;
       agreed-wish = λ p g h. accepting.agreed-wish p g;
     }

@@ -23,7 +23,7 @@ use Rattle.frame.specs.declared.FrameRead.{FrameRead}
 use Rattle.frame.specs.declared.FrameWritten.{FrameWritten}
 use Rattle.exact.proofs.Exact as frames
 use Rattle.message.specs.Kinds.{known}
-use Rattle.message.specs.Reader.{listRoom, hasNs, tailAt, accepted, nsTold}
+use Rattle.message.specs.Reader.{listRoom, hasNs, tailAt, nsOf, accepted, nsTold}
 use Rattle.message.specs.Reader as messageReader
 use Rattle.message.proofs.Accepted.{success-writes, success-ns}
 use Rattle.writer.specs.Meaning.{allShaped, ascending, allParented}
@@ -31,7 +31,7 @@ use Rattle.writer.specs.Writer.{endsThere, nsAgrees, messageOctets, checkedWrit
 use Rattle.writer.specs.Writer as messageWriter
 use Rattle.writer.specs.declared.MessageWritten.{MessageWritten}
 use Rattle.writer.proofs.RoundTrip.{sent-writable, written-is-read, written-is-octets}
-use Rattle.demands.specs.Returning.{nsOf, Tells, FourCalls, ComesBack}
+use Rattle.demands.specs.Returning.{Tells, FourCalls, ComesBack}
 
 -- ---- over the definitions
 

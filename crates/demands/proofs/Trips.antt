@@ -24,7 +24,7 @@ use Rattle.exact.proofs.Exact.{accepted-is-frame}
 use Rattle.exact.proofs.Exact as frames
 use Rattle.exact.proofs.ReaderUnique as frameReading
 use Rattle.exact.proofs.WriterUnique as frameWriting
-use Rattle.message.specs.Reader.{mostOctets, listRoom, nsPlace, nsSize, hasNs, tailAt, readMessage, Reads}
+use Rattle.message.specs.Reader.{mostOctets, listRoom, nsPlace, nsSize, nsOf, hasNs, tailAt, readMessage, Reads}
 use Rattle.message.specs.declared.MessageRead.{MessageRead}
 use Rattle.message.specs.declared.MessageRead.the-variants.{Read, SmallList}
 use Rattle.message.proofs.Unique.{read-unique}
@@ -34,7 +34,7 @@ use Rattle.writer.specs.declared.MessageWritten.{MessageWritten}
 use Rattle.writer.specs.declared.MessageWritten.the-variants as messageWritten
 use Rattle.writer.proofs.RoundTrip.{sent-writable, written-is-read}
 use Rattle.writer.proofs.WriterUnique as messageWriting
-use Rattle.demands.specs.Returning.{nsOf, ReturnsList}
+use Rattle.demands.specs.Returning.{ReturnsList}
 use Rattle.demands.specs.Stages.{ReadsBack, FramesBack}
 use Rattle.demands.specs.declared.Flags.{Flags}
 use Rattle.demands.specs.declared.Trip.{Trip}

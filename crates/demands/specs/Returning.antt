@@ -16,7 +16,7 @@ use Rattle.frame.specs.Writer as frameWriter
 use Rattle.frame.specs.declared.FrameRead.{FrameRead}
 use Rattle.frame.specs.declared.FrameWritten.{FrameWritten}
 use Rattle.message.specs.Kinds.{typeOf, revisionOf}
-use Rattle.message.specs.Reader.{mostOctets, listRoom, messageCodes, nsPlace, nsSize, accepted, readMessage, nsTold}
+use Rattle.message.specs.Reader.{mostOctets, listRoom, messageCodes, nsPlace, nsOf, accepted, readMessage, nsTold}
 use Rattle.message.specs.Reader as messageReader
 use Rattle.message.specs.declared.MessageRead.{MessageRead}
 use Rattle.message.specs.declared.MessageRead.the-variants.{Read, SmallList}
@@ -26,10 +26,6 @@ use Rattle.writer.specs.declared.MessageWritten.{MessageWritten}
 use Rattle.demands.specs.declared.Flags.{Flags}
 use Rattle.demands.specs.declared.Trip.{Trip}
 use Rattle.demands.specs.declared.Trip.the-variants.{Unwritten, Unframed, Back}
-
--- the NS of a message
-abbrev pub nsOf : List ℕ → List ℕ
-nsOf os = take (nsSize os) (drop (nsPlace os) os)
 
 -- what the message reader finds in some octets: that they are accepted, and this type, revision, list and NS
 abbrev pub Tells : List ℕ → ℕ → ℕ → ℕ → List ℕ → List ℕ → Type 0

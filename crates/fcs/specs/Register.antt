@@ -1,5 +1,5 @@
--- The register of 7.2.7's typical implementation, an octet at a time. It is a number of 16 bits whose lowest bit is the highest
--- coefficient. No public contract cites it: the laws show that it gives `fcs`.
+-- Inner: the register of 7.2.7's typical implementation, an octet at a time. It is a number of 16 bits whose lowest bit is the highest
+-- coefficient. The laws show that it gives `fcs`.
 -- Assumes nothing.
 use Prim.Native.Nat.{ℕ, zero, suc, _/_, _%_}
 use mathlib.Core.Bool.{Bool, true, false}

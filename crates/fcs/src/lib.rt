@@ -1,9 +1,8 @@
 // The frame check sequence of a run of octets (V.8 bis 7.2.7). Its number has the highest coefficient in the lowest bit, so
 // that its two octets, in the order in which they are sent, are f % 256 and f / 256.
 ghost use mathlib.Core.Path.{_≡_};
-ghost use Rattle.octets.specs.Bits.{bits, number};
-ghost use Rattle.fcs.specs.Division.{fcs};
 ghost use Rattle.fcs.specs.Register.{turns, octetStep};
+ghost use Rattle.fcs.specs.Contracts.{TellsFcs};
 
 // Eight steps of the division at once, of a register that has nothing but its eight lowest bits.
 fn eight_steps(low: u8) -> u16
@@ -23,7 +22,7 @@ fn octet_into(register: u16, octet: u8) -> u16
 
 // The FCS of a run of octets.
 pub fn fcs_of(run: &[u8]) -> u16
-    ensures { λ r. ⌜ r ≡ number (fcs (bits (now (run .entry)))) ⌝ }
+    ensures { λ r. ⌜ TellsFcs (now (run .entry)) r ⌝ }
 {
     let mut register = 65535u16;
     let mut i = 0;

@@ -1,4 +1,4 @@
--- Codes stored in two lists, as numbers and as four octets each, behind those stored before. Inner: no public contract cites it.
+-- Inner: codes stored in two lists, as numbers and as four octets each, behind those stored before.
 -- Assumes nothing.
 use Prim.Native.Nat.{ℕ, _+_, _*_}
 use mathlib.Core.List.{List}

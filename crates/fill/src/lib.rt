@@ -1,14 +1,14 @@
 // The codes of a field (document 01, "Parameter codes"), stored in a list of numbers or of octets by loops over its blocks.
 ghost use Prim.Native.Nat.{_+_, _*_, _/_, _^_, _≤_, _<_};
-ghost use Rattle.octets.specs.Lay.{over};
 ghost use Rattle.tree.specs.Block.{setBits, behind, numbers};
 ghost use Rattle.tree.specs.Codes.{subCodes, subsBehind, groupCodes, groupBehind, parCodes, parsBehind, fieldCodes};
-ghost use Rattle.tree.specs.Fields.{codesIn, fours};
+ghost use Rattle.tree.specs.Fields.{fours};
 ghost use lib.ListN.{length, set};
 ghost use lib.Seq.{sets};
 ghost use mathlib.Core.List.{[], _∷_, _++_};
 ghost use mathlib.Core.Path.{_≡_};
 ghost use Rattle.fill.specs.Storing.{Stores, Fills};
+ghost use Rattle.fill.specs.Contracts.{FillsCodes, FillsOctets};
 use tree::Field;
 use tree::base_of;
 use tree::bit8;
@@ -284,7 +284,7 @@ fn fill_field(s: &[u8], at: usize, base: u32, list: &mut [u32], octets: &mut [u8
 
 // Stores the codes of the field at a place, as many as there is room for, and gives how many there are.
 pub fn fill_codes(s: &[u8], at: usize, field: Field, list: &mut [u32]) -> usize
-    ensures { λ r. ⌜ (r ≡ length (codesIn field (now (s .entry)) at)) × (now (list .exit) ≡ over (codesIn field (now (s .entry)) at) (now (list .entry))) ⌝ }
+    ensures { λ r. ⌜ FillsCodes (now (s .entry)) at field (now (list .entry)) r (now (list .exit)) ⌝ }
 {
     if MOST_OCTETS < s.len() {
         return 0;
@@ -296,7 +296,7 @@ pub fn fill_codes(s: &[u8], at: usize, field: Field, list: &mut [u32]) -> usize
 // Stores the codes of the field at a place, four octets to a code, lowest first, as many octets as there is room for, and gives
 // how many codes there are.
 pub fn fill_octets(s: &[u8], at: usize, field: Field, list: &mut [u8]) -> usize
-    ensures { λ r. ⌜ (r ≡ length (codesIn field (now (s .entry)) at)) × (now (list .exit) ≡ over (fours (codesIn field (now (s .entry)) at)) (now (list .entry))) ⌝ }
+    ensures { λ r. ⌜ FillsOctets (now (s .entry)) at field (now (list .entry)) r (now (list .exit)) ⌝ }
 {
     if MOST_OCTETS < s.len() {
         return 0;

@@ -1,4 +1,4 @@
--- Which runs are a frame (V.8 bis 7.2.3), and of which information.
+-- To be believed: which runs are a frame (V.8 bis 7.2.3), and of which information.
 -- Assumes nothing.
 use Prim.Native.Nat.{ℕ, _≤_}
 use mathlib.Core.Bool.{Bool}

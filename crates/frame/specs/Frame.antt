@@ -1,4 +1,4 @@
--- A whole frame (V.8 bis 7.2.3), as it is sent, and as it is found at the front of some bits.
+-- To be believed: a whole frame (V.8 bis 7.2.3), as it is sent, and as it is found at the front of some bits.
 -- Assumes nothing.
 use Prim.Native.Nat.{ℕ, zero, suc, _+_, _*_}
 use mathlib.Core.Bool.{Bool, true, false}

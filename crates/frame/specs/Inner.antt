@@ -1,5 +1,4 @@
--- What the inner functions of reader and writer give: stuffed bits put, bits of a content taken, a content or a frame found.
--- Inner: no public contract cites it.
+-- Inner: what the inner functions of reader and writer give: stuffed bits put, bits of a content taken, a content or a frame found.
 -- Assumes nothing.
 use Prim.Native.Nat.{ℕ, zero, suc, _+_, _-_, _<_, _≤_}
 use mathlib.Core.Bool.{Bool, true, false}

@@ -6,3 +6,4 @@ pub mod Writer
 pub mod Pen
 pub mod Inner
 pub mod Exact
+pub mod Contracts

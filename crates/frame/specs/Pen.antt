@@ -1,4 +1,4 @@
--- Bits put into octets one after the other: what an output and a pen hold, and what a step adds. Inner: no public contract cites it.
+-- Inner: bits put into octets one after the other: what an output and a pen hold, and what a step adds.
 -- Assumes nothing.
 use Prim.Native.Nat.{ℕ, zero, suc, _+_, _*_, _/_, _%_, _^_, _<_, _≤_}
 use mathlib.Core.Bool.{Bool, true, false}

@@ -1,4 +1,4 @@
--- What the frame reader answers, by document 01's numbers, and what it leaves in the output.
+-- To be believed: what the frame reader answers, by document 01's numbers, and what it leaves in the output.
 -- Assumes nothing.
 use Prim.Native.Nat.{ℕ, _-_, _*_, _/_, _%_}
 use mathlib.Core.Bool.{Bool, true, false, not, Bool·beq}

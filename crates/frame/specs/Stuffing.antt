@@ -1,4 +1,4 @@
--- The flag (V.8 bis 7.2.5), and transparency (7.2.8): zeros put in for sending and taken out in receiving.
+-- To be believed: the flag (V.8 bis 7.2.5), and transparency (7.2.8): zeros put in for sending and taken out in receiving.
 -- Assumes nothing.
 use Prim.Native.Nat.{ℕ, zero, suc}
 use mathlib.Core.Bool.{Bool, true, false, Bool·beq}

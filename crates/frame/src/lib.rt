@@ -10,11 +10,11 @@ ghost use Rattle.octets.specs.Lay.{put};
 ghost use Rattle.fcs.specs.Division.{fcs};
 ghost use Rattle.frame.specs.Stuffing.{flag, starts, stuffed, contentFrom};
 ghost use Rattle.frame.specs.Frame.{flags, flagsAt, content, frame, framed};
-ghost use Rattle.frame.specs.Reader.{checked, alone, readFrame, Reads};
-ghost use Rattle.frame.specs.Writer.{writeFrame, Writes};
+ghost use Rattle.frame.specs.Reader.{checked, alone, Reads};
 ghost use Rattle.frame.specs.Pen.{lowBits, Holds, Ready, Adds};
 ghost use Rattle.frame.specs.Inner.{fiveEnd, Inks, Takes, Goes, Ends, Finds};
 ghost use Rattle.frame.specs.Limits.{mostInformation, mostBits, informationRoom, frameRoom, mostOpening, mostClosing};
+ghost use Rattle.frame.specs.Contracts.{FrameReads, FrameWrites};
 use fcs::fcs_of;
 use octets::bit_at;
 use octets::copy_front;
@@ -247,7 +247,7 @@ fn put_frame(info: &[u8], opening: usize, closing: usize, out: &mut [u8]) -> usi
 
 // The frame writer: the information between flags, with its FCS. It gives the number of bits.
 pub fn write_frame(info: &[u8], opening: usize, closing: usize, out: &mut [u8]) -> FrameWritten
-    ensures { λ r. ⌜ Writes (writeFrame (now (info .entry)) opening closing (length (now (out .entry)))) (now (out .entry)) r (now (out .exit)) ⌝ }
+    ensures { λ r. ⌜ FrameWrites (now (info .entry)) opening closing (now (out .entry)) r (now (out .exit)) ⌝ }
 {
     if out.len() < FRAME_ROOM {
         return FrameWritten::SmallOutput;
@@ -559,7 +559,7 @@ fn read_whole(run: &[u8], count: usize, out: &mut [u8]) -> FrameRead
 
 // The frame reader: the information of the one frame that the first count bits of a run are. It gives the number of octets.
 pub fn read_frame(run: &[u8], count: usize, out: &mut [u8]) -> FrameRead
-    ensures { λ r. ⌜ Reads (readFrame (now (run .entry)) count (length (now (out .entry)))) (now (out .entry)) r (now (out .exit)) ⌝ }
+    ensures { λ r. ⌜ FrameReads (now (run .entry)) count (now (out .entry)) r (now (out .exit)) ⌝ }
 {
     if MOST_BITS < count {
         return FrameRead::NoRoom;

@@ -6,8 +6,8 @@ ghost use lib.ListN.{length};
 ghost use Rattle.octets.specs.Places.{pick};
 ghost use Rattle.tree.specs.Block.{setBits, numbers, behind};
 ghost use Rattle.tree.specs.Codes.{fieldBase, groupBehind, fieldBehind};
-ghost use Rattle.good.specs.Good.{goodField};
 ghost use Rattle.good.specs.Judging.{goodBlock, goodSub, goodGroup, goodPar, goodStandard, parsJudged};
+ghost use Rattle.good.specs.Contracts.{TellsGood};
 use names::Keep;
 use names::npar_places;
 use names::spar_places;
@@ -162,7 +162,7 @@ fn field_good(s: &[u8]) -> usize
 
 // Whether octets are a standard field that an own table or a wish may hold: named standard parameters only, in minimal form.
 pub fn is_good(t: &[u8]) -> bool
-    ensures { λ r. ⌜ r ≡ goodField (now (t .entry)) ⌝ }
+    ensures { λ r. ⌜ TellsGood (now (t .entry)) r ⌝ }
 {
     if MOST_STANDARD < t.len() {
         return false;

@@ -12,7 +12,8 @@ use Rattle.tree.specs.Form.{isFine}
 use Rattle.tree.proofs.Forms.{is-fine}
 use Rattle.message.specs.Check.{noFinding, checkTold, checkMessage}
 use Rattle.message.specs.Kinds.{known, hasFields, typeOf}
-use Rattle.message.specs.Reader.{mostOctets, listRoom, standardAt, tailAt, refused, accepted, judged, readMessage, Shapes}
+use Rattle.message.specs.Reader.{mostOctets, listRoom, standardAt, tailAt, refused, accepted, judged, readMessage}
+use Rattle.message.specs.Inner.{Shapes}
 use Rattle.message.specs.declared.MessageCheck.{MessageCheck}
 use Rattle.message.specs.declared.MessageCheck.the-variants.{Parted, Malformed}
 use Rattle.message.specs.declared.Parts.{Parts}

@@ -11,13 +11,15 @@ use lib.ListN.{length}
 use Rattle.octets.specs.Places.{pick}
 use Rattle.tree.specs.Codes.{fieldBehind}
 use Rattle.tree.specs.Form.{andThen, isFine, fieldForm}
-use Rattle.tree.specs.Fields.{formIn, Reaches}
+use Rattle.tree.specs.Fields.{formIn}
+use Rattle.tree.specs.Inner.{Reaches}
 use Rattle.tree.specs.declared.Form.{Form}
 use Rattle.tree.specs.declared.Form.the-variants.{Fine, Left}
 use Rattle.tree.specs.declared.Reach.{Reach}
 use Rattle.tree.proofs.Forms.{is-fine, and-bad, and-parts, form-in, field-fits}
 use Rattle.message.specs.Nonstandard.{nsAnnounced, tailForm}
-use Rattle.message.specs.Reader.{standardAt, tailAt, Shapes}
+use Rattle.message.specs.Reader.{standardAt, tailAt}
+use Rattle.message.specs.Inner.{Shapes}
 use Rattle.message.specs.declared.Shape.{Shape}
 
 -- the form of all of it

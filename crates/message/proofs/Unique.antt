@@ -9,10 +9,9 @@ use lib.ListN.{length}
 use Rattle.octets.specs.Places.{pick}
 use Rattle.octets.proofs.Unique.{one-reply}
 use Rattle.tree.specs.declared.Form.{Form}
-use Rattle.message.specs.Check.{Finding, checkTold, checkMessage}
-use Rattle.message.specs.Kinds.{known}
-use Rattle.message.specs.Nonstandard.{nsForm}
+use Rattle.message.specs.Check.{Finding, checkTold}
 use Rattle.message.specs.Reader.{Reading, refused, accepted, readMessage, Reply, readTold, readReply, readLeaves, Reads, spanTold, nsTold}
+use Rattle.message.specs.Contracts.{TellsKnown, TellsNsForm, Checks, TellsNs}
 use Rattle.message.specs.declared.MessageCheck.{MessageCheck}
 use Rattle.message.specs.declared.MessageCheck.the-variants.{Parted}
 use Rattle.message.specs.declared.MessageCheck.the-variants as check
@@ -58,7 +57,7 @@ pub told-injective : (r r′ : MessageCheck) → checkTold r ≡ checkTold r′ 
 told-injective r r′ e = sym (answer-told r) ∙ ap answer e ∙ answer-told r′
 
 -- `check_message`: two answers that fit one message are the same
-pub check-unique : (l : List ℕ) (r r′ : MessageCheck) → checkTold r ≡ checkMessage l → checkTold r′ ≡ checkMessage l → r ≡ r′
+pub check-unique : (l : List ℕ) (r r′ : MessageCheck) → Checks l r → Checks l r′ → r ≡ r′
 check-unique l r r′ e e′ = told-injective r r′ (one-reply e e′)
 
 -- an answer that is not success leaves the list as it was
@@ -91,11 +90,11 @@ refusal-ns-empty r l h = ns-none r l (go r h)
     go Malformed h = refl
 
 -- `is_known`, `ns_form`, and of `ns_part` the octets: each ensures that its reply is one value
-pub known-unique : (kind : ℕ) (r r′ : Bool) → r ≡ known kind → r′ ≡ known kind → r ≡ r′
+pub known-unique : (kind : ℕ) (r r′ : Bool) → TellsKnown kind r → TellsKnown kind r′ → r ≡ r′
 known-unique kind r r′ = one-reply
 
-pub ns-form-unique : (l : List ℕ) (start : ℕ) (r r′ : Form) → r ≡ nsForm (length l) l start → r′ ≡ nsForm (length l) l start → r ≡ r′
+pub ns-form-unique : (l : List ℕ) (start : ℕ) (r r′ : Form) → TellsNsForm l start r → TellsNsForm l start r′ → r ≡ r′
 ns-form-unique l start r r′ = one-reply
 
-pub ns-part-unique : (l : List ℕ) (answer : MessageRead) (r r′ : List ℕ) → r ≡ nsTold answer l → r′ ≡ nsTold answer l → r ≡ r′
+pub ns-part-unique : (l : List ℕ) (answer : MessageRead) (r r′ : List ℕ) → TellsNs l answer r → TellsNs l answer r′ → r ≡ r′
 ns-part-unique l answer r r′ = one-reply

@@ -1,4 +1,4 @@
--- Octet 1 of a message (V.8 bis 8.3.1 and 8.3.2, Tables 3 and 4): bits 1 to 4 the type, bits 5 to 8 the revision.
+-- To be believed: octet 1 of a message (V.8 bis 8.3.1 and 8.3.2, Tables 3 and 4): bits 1 to 4 the type, bits 5 to 8 the revision.
 -- Assumes nothing.
 use Prim.Native.Nat.{ℕ, _+_, _*_, _/_, _%_}
 use mathlib.Core.Bool.{Bool}

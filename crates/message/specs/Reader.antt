@@ -1,4 +1,4 @@
--- What the message reader answers, by document 01's numbers, and what it leaves in the list.
+-- To be believed: what the message reader answers, by document 01's numbers, and what it leaves in the list.
 -- Assumes nothing.
 use Prim.Native.Nat.{ℕ, _-_}
 use mathlib.Core.Bool.{Bool, true, false, not}
@@ -15,7 +15,6 @@ use Rattle.tree.specs.declared.Form.the-variants.{Fine, Early, Wrong, Left, Bad
 use Rattle.message.specs.Kinds.{known, hasFields, typeOf, revisionOf}
 use Rattle.message.specs.Nonstandard.{nsAnnounced, tailForm}
 use Rattle.message.specs.declared.Message.{Message}
-use Rattle.message.specs.declared.Shape.{Shape}
 use Rattle.message.specs.declared.Span.{Span}
 use Rattle.message.specs.declared.MessageRead.{MessageRead}
 use Rattle.message.specs.declared.MessageRead.the-variants.{Read, SmallList, BadSize, UnknownType, Malformed}
@@ -53,6 +52,10 @@ nsPlace l = pick (hasNs l) (tailAt l) 0
 
 abbrev pub nsSize : List ℕ → ℕ
 nsSize l = pick (hasNs l) (length l - tailAt l) 0
+
+-- the NS of a message
+abbrev pub nsOf : List ℕ → List ℕ
+nsOf l = take (nsSize l) (drop (nsPlace l) l)
 
 -- a refusal's number, or that the message is well-formed
 pub data Reading : Type 0 where
@@ -113,12 +116,6 @@ readLeaves accepted l list = put (messageCodes l) list
 pub record Reads (l list₀ : List ℕ) (r : MessageRead) (list₁ : List ℕ) : Type 0 where
   pub reply : readTold r ≡ readReply (readMessage l (length list₀)) l
   pub list : list₁ ≡ readLeaves (readMessage l (length list₀)) l list₀
-
--- the form of a message with fields, and, where it is fine, the places of S and of what is behind it. Inner
-pub record Shapes (l : List ℕ) (r : Shape) : Type 0 where
-  pub formIs : r .form ≡ andThen (fieldForm l 1) (andThen (fieldForm l (standardAt l)) (tailForm l (tailAt l)))
-  pub standardIs : r .form ≡ Fine → r .standard ≡ standardAt l
-  pub tailIs : r .form ≡ Fine → r .tail ≡ tailAt l
 
 -- where an answer says that NS lies
 abbrev pub spanTold : MessageRead → Span

@@ -5,9 +5,10 @@ ghost use Prim.Native.Nat.{_-_, _≤_, _<_};
 ghost use lib.ListN.{length};
 ghost use Rattle.octets.specs.Places.{pick};
 ghost use Rattle.message.specs.Kinds.{known, hasFields, typeOf};
-ghost use Rattle.message.specs.Nonstandard.{nsAnnounced, nsForm, tailForm};
-ghost use Rattle.message.specs.Reader.{mostOctets, listRoom, Reads, nsTold, spanTold, Shapes};
-ghost use Rattle.message.specs.Check.{checkTold, checkMessage};
+ghost use Rattle.message.specs.Nonstandard.{nsAnnounced, tailForm};
+ghost use Rattle.message.specs.Reader.{mostOctets, listRoom, Reads, spanTold};
+ghost use Rattle.message.specs.Inner.{Shapes};
+ghost use Rattle.message.specs.Contracts.{TellsKnown, TellsNsForm, Checks, TellsNs};
 use fill::fill_codes;
 use tree::Field;
 use tree::Form;
@@ -47,7 +48,7 @@ pub enum MessageRead {
 
 // Whether a type is one of those of Table 3 that are used here.
 pub fn is_known(kind: u8) -> bool
-    ensures { λ r. ⌜ r ≡ known kind ⌝ }
+    ensures { λ r. ⌜ TellsKnown kind r ⌝ }
 {
     if kind < 1 {
         return false;
@@ -63,7 +64,7 @@ pub fn is_known(kind: u8) -> bool
 
 // The form of the NS blocks from a place on. One is due there.
 pub fn ns_form(s: &[u8], start: usize) -> Form
-    ensures { λ r. ⌜ r ≡ nsForm (length (now (s .entry))) (now (s .entry)) start ⌝ }
+    ensures { λ r. ⌜ TellsNsForm (now (s .entry)) start r ⌝ }
 {
     let size = s.len();
     let mut e = start;
@@ -171,7 +172,7 @@ pub enum MessageCheck {
 // A message with fields: its form decides.
 fn check_fields(s: &[u8]) -> MessageCheck
     requires { ⌜ (0 < length (now s)) × (length (now s) ≤ mostOctets) × (known (typeOf (now s)) ≡ true) × (hasFields (typeOf (now s)) ≡ true) ⌝ }
-    ensures { λ r. ⌜ checkTold r ≡ checkMessage (now (s .entry)) ⌝ }
+    ensures { λ r. ⌜ Checks (now (s .entry)) r ⌝ }
 {
     let shape = fields_form(s);
     let form = shape.form;
@@ -187,7 +188,7 @@ fn check_fields(s: &[u8]) -> MessageCheck
 
 // Whether a message is well-formed, and where its parts begin: refusals 2 to 4 of the message reader.
 pub fn check_message(s: &[u8]) -> MessageCheck
-    ensures { λ r. ⌜ checkTold r ≡ checkMessage (now (s .entry)) ⌝ }
+    ensures { λ r. ⌜ Checks (now (s .entry)) r ⌝ }
 {
     if s.len() == 0 {
         return MessageCheck::BadSize;
@@ -214,7 +215,7 @@ pub fn check_message(s: &[u8]) -> MessageCheck
 
 // Reads a well-formed message, whose parts are known: its codes into the list.
 fn read_parts(s: &[u8], parts: Parts, list: &mut [u32]) -> MessageRead
-    requires { ⌜ (checkTold (MessageCheck.Parted parts) ≡ checkMessage (now s)) × (listRoom ≤ length (now list)) ⌝ }
+    requires { ⌜ (Checks (now s) (MessageCheck.Parted parts)) × (listRoom ≤ length (now list)) ⌝ }
     ensures { λ r. ⌜ Reads (now (s .entry)) (now (list .entry)) r (now (list .exit)) ⌝ }
 {
     let kind = parts.kind;
@@ -268,7 +269,7 @@ fn told_span(answer: MessageRead) -> Span
 
 // The NS that an answer tells of, as a part of the message; empty where the answer is a refusal.
 pub fn ns_part(s: &[u8], answer: MessageRead) -> &[u8]
-    ensures { λ r. ⌜ now r ≡ nsTold answer (now (s .entry)) ⌝ }
+    ensures { λ r. ⌜ TellsNs (now (s .entry)) answer (now r) ⌝ }
 {
     let span = told_span(answer);
     let at = span.at;

@@ -11,7 +11,8 @@ use lib.ListN.{length}
 use Rattle.octets.specs.Bits.{num}
 use Rattle.names.specs.Tables.{Row, reserved, nparBlocks, sparBlocks}
 use Rattle.names.specs.Named.{rowsUnder, rowAt, keepsRow}
-use Rattle.names.specs.Masks.{placesOf, nparPlaces, sparPlaces, keptPlace}
+use Rattle.names.specs.Masks.{placesOf, nparPlaces, sparPlaces}
+use Rattle.names.specs.Inner.{keptPlace}
 use Rattle.names.specs.declared.Keep.{Keep}
 use Rattle.names.specs.declared.Keep.the-variants.{Standard}
 use Rattle.names.proofs.Rows.{kept-place}

@@ -11,8 +11,9 @@ use lib.Pow.{shr-shr}
 use Rattle.octets.specs.Bits.{num, odd}
 use Rattle.octets.proofs.Digits.{num-lt}
 use Rattle.names.specs.Tables.{Row, named, nonStandard, reserved, nparBlocks, sparBlocks}
-use Rattle.names.specs.Named.{rowsUnder, rowAt, nparRow, sparRow, rowOf, isNamed, isStandard, isNonStandard, keepsRow, keeps}
-use Rattle.names.specs.Masks.{maskOf, placesOf, nparPlaces, sparPlaces, keptPlace}
+use Rattle.names.specs.Named.{rowsUnder, rowAt, nparRow, sparRow, rowOf, isNamed, isStandard, keepsRow, keeps}
+use Rattle.names.specs.Masks.{maskOf, placesOf, nparPlaces, sparPlaces}
+use Rattle.names.specs.Inner.{isNonStandard, keptPlace}
 use Rattle.names.specs.declared.Keep.{Keep}
 use Rattle.names.specs.declared.Keep.the-variants.{All, Named, Standard}
 use Rattle.names.proofs.Blocks.{every, mask-zero}

@@ -1,9 +1,9 @@
--- The positions of a block that are kept, as the code has them: all, or a bit for each, position 1 the lowest.
+-- To be believed: the positions of a block that are kept, as the code has them: all, or a bit for each, position 1 the lowest.
 -- Assumes nothing.
-use Prim.Native.Nat.{ℕ, _+_, _-_, _*_, _/_, _^_}
+use Prim.Native.Nat.{ℕ, _+_, _*_}
 use mathlib.Core.Bool.{Bool, true, false}
 use mathlib.Core.List.{List, [], _∷_}
-use Rattle.octets.specs.Bits.{num, odd}
+use Rattle.octets.specs.Bits.{num}
 use Rattle.octets.specs.Places.{pick}
 use Rattle.names.specs.Tables.{Row, nparBlocks, sparBlocks}
 use Rattle.names.specs.Named.{rowsUnder, isNamed, isStandard}
@@ -27,10 +27,6 @@ nparPlaces k c = placesOf k (rowsUnder c nparBlocks)
 
 unfoldable pub sparPlaces : Keep → ℕ → Places
 sparPlaces k c = placesOf k (rowsUnder c sparBlocks)
-
--- whether a position, counted from 1, is kept
-abbrev pub keptPlace : Places → ℕ → Bool
-keptPlace p q = pick (p .all) true (odd (p .bits / 2 ^ (q - 1)))
 
 -- those numbers of a list that pass a test
 unfoldable pub only : (ℕ → Bool) → List ℕ → List ℕ

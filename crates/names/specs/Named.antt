@@ -1,4 +1,4 @@
--- Which parameters are named (document 01, "Striking"), and which of those are standard ones: the row of a code in the tables.
+-- To be believed: which parameters are named (document 01, "Striking"), and which of those are standard ones: the row of a code in the tables.
 -- Assumes nothing.
 use Prim.Native.Nat.{ℕ, zero, suc, _-_, _%_}
 use mathlib.Core.Bool.{Bool, true, false}
@@ -44,11 +44,6 @@ abbrev pub isStandard : Row → Bool
 isStandard named = true
 isStandard nonStandard = false
 isStandard reserved = false
-
-abbrev pub isNonStandard : Row → Bool
-isNonStandard named = false
-isNonStandard nonStandard = true
-isNonStandard reserved = false
 
 -- printed and not reserved; and of these, no non-standard bit
 abbrev pub namedCode : ℕ → Bool

@@ -4,8 +4,10 @@ ghost use mathlib.Core.Path.{_≡_};
 ghost use Prim.Native.Nat.{_+_, _*_};
 ghost use Rattle.tree.specs.Codes.{codeOf};
 ghost use Rattle.names.specs.Tables.{nparBlocks, sparBlocks};
-ghost use Rattle.names.specs.Named.{rowsUnder, isNamed, isNonStandard};
-ghost use Rattle.names.specs.Masks.{maskOf, nparPlaces, sparPlaces};
+ghost use Rattle.names.specs.Named.{rowsUnder, isNamed};
+ghost use Rattle.names.specs.Masks.{maskOf};
+ghost use Rattle.names.specs.Inner.{isNonStandard};
+ghost use Rattle.names.specs.Contracts.{TellsNparPlaces, TellsSparPlaces};
 
 // The SPar(1) positions of I begin at 512, those of S at 1024, in units of a code's s.
 const STANDARD: u32 = 1024;
@@ -124,7 +126,7 @@ fn spar_names(under: u32) -> u32
 
 // The NPar positions that are kept of the block that stands under a code.
 pub fn npar_places(keep: Keep, under: u32) -> Places
-    ensures { λ r. ⌜ r ≡ nparPlaces keep under ⌝ }
+    ensures { λ r. ⌜ TellsNparPlaces keep under r ⌝ }
 {
     match keep {
         Keep::All => Places { all: true, bits: 0 },
@@ -141,7 +143,7 @@ pub fn npar_places(keep: Keep, under: u32) -> Places
 
 // The SPar positions that are kept of the block that stands under a code.
 pub fn spar_places(keep: Keep, under: u32) -> Places
-    ensures { λ r. ⌜ r ≡ sparPlaces keep under ⌝ }
+    ensures { λ r. ⌜ TellsSparPlaces keep under r ⌝ }
 {
     match keep {
         Keep::All => Places { all: true, bits: 0 },

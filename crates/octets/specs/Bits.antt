@@ -1,4 +1,4 @@
--- The bits of a run of octets, bit 1 of each octet first (V.8 bis 7.2.2), and octets made of bits.
+-- To be believed: the bits of a run of octets, bit 1 of each octet first (V.8 bis 7.2.2), and octets made of bits.
 -- Assumes nothing.
 use Prim.Native.Nat.{ℕ, zero, suc, _+_, _*_, _/_, _%_, _<_}
 use mathlib.Core.Bool.{Bool, true, false}

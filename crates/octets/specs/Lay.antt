@@ -1,4 +1,4 @@
--- One list laid over the front of another.
+-- To be believed: one list laid over the front of another.
 -- Assumes nothing.
 use Prim.Native.Nat.{ℕ}
 use mathlib.Core.List.{List, [], _∷_, _++_}

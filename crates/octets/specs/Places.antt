@@ -1,4 +1,4 @@
--- What stands at a place of a run, counted in bits from 0, and the place after it.
+-- To be believed: what stands at a place of a run, counted in bits from 0, and the place after it.
 -- Assumes nothing.
 use Prim.Native.Nat.{ℕ, _+_}
 use mathlib.Core.Bool.{Bool, true, false}

@@ -1,10 +1,8 @@
 // What every layer needs of octets: the bits of a run, a cursor over them, eight bits as a number, and copying.
 ghost use mathlib.Core.Path.{_≡_};
 ghost use Prim.Native.Nat.{min};
-ghost use lib.ListN.{length, take, drop, getD};
-ghost use Rattle.octets.specs.Bits.{bits, number};
-ghost use Rattle.octets.specs.Places.{bitAt, isOne, placeAfter};
-ghost use Rattle.octets.specs.Lay.{over};
+ghost use lib.ListN.{getD};
+ghost use Rattle.octets.specs.Contracts.{TellsBit, TellsOne, TellsPlaceAfter, IsReader, TellsNextBit, IsMovedOn, TellsBitAfter, TellsOctet, CopiesFront};
 
 // The highest place that a usize can name.
 const LAST_PLACE: usize = 18446744073709551615;
@@ -18,7 +16,7 @@ pub enum Bit {
 
 // The bit at a place of a run, counted from 0 with bit 1 of the first octet.
 pub fn bit_at(run: &[u8], at: usize) -> Bit
-    ensures { λ r. ⌜ r ≡ bitAt (now (run .entry)) at ⌝ }
+    ensures { λ r. ⌜ TellsBit (now (run .entry)) at r ⌝ }
 {
     let i = at / 8;
     if i < run.len() {
@@ -32,7 +30,7 @@ pub fn bit_at(run: &[u8], at: usize) -> Bit
 
 // Whether a bit is a one; the end is none.
 pub fn is_one(b: Bit) -> bool
-    ensures { λ r. ⌜ r ≡ isOne b ⌝ }
+    ensures { λ r. ⌜ TellsOne b r ⌝ }
 {
     match b {
         Bit::Zero => false,
@@ -43,7 +41,7 @@ pub fn is_one(b: Bit) -> bool
 
 // The place after a bit of a run.
 pub fn place_after(run: &[u8], at: usize) -> usize
-    ensures { λ r. ⌜ r ≡ placeAfter (now (run .entry)) at ⌝ }
+    ensures { λ r. ⌜ TellsPlaceAfter (now (run .entry)) at r ⌝ }
 {
     if at < LAST_PLACE {
         if at / 8 < run.len() {
@@ -61,21 +59,21 @@ pub struct BitReader<'a> {
 
 // A reader of a run, from a place on.
 pub fn reader_at<'a>(run: &'a [u8], at: usize) -> BitReader<'a>
-    ensures { λ r. ⌜ (r .run ≡ run .entry) × (r .at ≡ at) ⌝ }
+    ensures { λ r. ⌜ IsReader (run .entry) at r ⌝ }
 {
     BitReader { run, at }
 }
 
 // The next bit of a reader.
 pub fn next_bit<'a>(r: BitReader<'a>) -> Bit
-    ensures { λ b. ⌜ b ≡ bitAt (now (r .entry .run)) (r .entry .at) ⌝ }
+    ensures { λ b. ⌜ TellsNextBit (r .entry) b ⌝ }
 {
     bit_at(r.run, r.at)
 }
 
 // The reader behind its next bit.
 pub fn moved_on<'a>(r: BitReader<'a>) -> BitReader<'a>
-    ensures { λ q. ⌜ (q .run ≡ r .entry .run) × (q .at ≡ placeAfter (now (r .entry .run)) (r .entry .at)) ⌝ }
+    ensures { λ q. ⌜ IsMovedOn (r .entry) q ⌝ }
 {
     let next = place_after(r.run, r.at);
     BitReader {
@@ -86,7 +84,7 @@ pub fn moved_on<'a>(r: BitReader<'a>) -> BitReader<'a>
 
 // The bit behind a place of a run, by the cursor; whoever calls this needs to know nothing of it.
 pub fn bit_after(run: &[u8], at: usize) -> Bit
-    ensures { λ b. ⌜ b ≡ bitAt (now (run .entry)) (placeAfter (now (run .entry)) at) ⌝ }
+    ensures { λ b. ⌜ TellsBitAfter (now (run .entry)) at b ⌝ }
 {
     next_bit(moved_on(reader_at(run, at)))
 }
@@ -100,7 +98,7 @@ fn octet_or_zero(run: &[u8], i: usize) -> u16
 
 // Eight bits of a run from a place on, as an octet; zeros behind the end.
 pub fn octet_at(run: &[u8], at: usize) -> u8
-    ensures { λ r. ⌜ r ≡ number (take 8 (drop at (bits (now (run .entry))))) ⌝ }
+    ensures { λ r. ⌜ TellsOctet (now (run .entry)) at r ⌝ }
 {
     let i = at / 8;
     let low = octet_or_zero(run, i);
@@ -117,7 +115,7 @@ fn least(a: usize, b: usize) -> usize
 
 // Copies the first octets, count of them or as many as there are and fit.
 pub fn copy_front(from: &[u8], count: usize, to: &mut [u8])
-    ensures { λ _. ⌜ now (to .exit) ≡ over (take count (now (from .entry))) (now (to .entry)) ⌝ }
+    ensures { λ _. ⌜ CopiesFront (now (from .entry)) count (now (to .entry)) (now (to .exit)) ⌝ }
 {
     let n = least(count, least(from.len(), to.len()));
     let mut j = 0;

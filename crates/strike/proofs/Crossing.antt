@@ -23,7 +23,8 @@ use Rattle.writer.proofs.Meanings.{Meant, tree-means}
 use Rattle.writer.proofs.Reading.{subsAt, groupAt, parsAt, treeAt, places-subs, places-pars, rising-at, tree-codes, tree-good}
 use Rattle.writer.proofs.Minimals.{never-longer}
 use Rattle.names.specs.Named.{keeps}
-use Rattle.names.specs.Masks.{only, keptPlace, nparPlaces, sparPlaces}
+use Rattle.names.specs.Masks.{only, nparPlaces, sparPlaces}
+use Rattle.names.specs.Inner.{keptPlace}
 use Rattle.names.specs.declared.Keep.{Keep}
 use Rattle.names.proofs.Rows.{keeps-npar, keeps-spar1, keeps-spar2}
 use Rattle.names.proofs.Parentage.{npar-parent, spar-parent}

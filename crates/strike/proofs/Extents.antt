@@ -21,7 +21,8 @@ use Rattle.writer.specs.Writer.{isEmpty}
 use Rattle.writer.specs.Written.{block}
 use Rattle.writer.proofs.Blocks.{Ends, last, more, block-back, setBits-over}
 use Rattle.writer.proofs.Putting.{drop-next}
-use Rattle.names.specs.Masks.{keptPlace, only}
+use Rattle.names.specs.Masks.{only}
+use Rattle.names.specs.Inner.{keptPlace}
 use Rattle.names.specs.declared.Places.{Places}
 use Rattle.names.proofs.Sieving.{only-append}
 use Rattle.strike.specs.Inner.{sieved, blockKept}

@@ -22,7 +22,8 @@ use Rattle.tree.proofs.Filling.{sets-append}
 use Rattle.writer.specs.Written.{marked}
 use Rattle.writer.specs.Writer.{isEmpty}
 use Rattle.writer.proofs.Putting.{sets-marked, length-marked, block-some}
-use Rattle.names.specs.Masks.{nparPlaces, sparPlaces, keptPlace}
+use Rattle.names.specs.Masks.{nparPlaces, sparPlaces}
+use Rattle.names.specs.Inner.{keptPlace}
 use Rattle.names.specs.declared.Keep.{Keep}
 use Rattle.names.specs.declared.Places.{Places}
 use Rattle.strike.specs.Inner.{sieved, blockKept, subKept, subsKept, lowerKept, groupKept, wholePar, parKept, parsKept, restKept, fieldKept, Puts}

@@ -16,7 +16,8 @@ use Rattle.octets.specs.Places.{pick}
 use Rattle.tree.specs.Block.{keep, setBits}
 use Rattle.writer.specs.Writer.{isEmpty}
 use Rattle.writer.proofs.Blocks.{setBits-over}
-use Rattle.names.specs.Masks.{keptPlace, only}
+use Rattle.names.specs.Masks.{only}
+use Rattle.names.specs.Inner.{keptPlace}
 use Rattle.names.specs.declared.Places.{Places}
 use Rattle.names.proofs.Sieving.{only-all}
 

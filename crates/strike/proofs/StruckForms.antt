@@ -18,16 +18,16 @@ use Rattle.tree.specs.declared.Form.the-variants.{Fine}
 use Rattle.tree.proofs.Forms.{field-fits}
 use Rattle.message.specs.Kinds.{hasFields, typeOf, revisionOf, firstOctet}
 use Rattle.message.specs.Nonstandard.{nsAnnounced, tailForm}
-use Rattle.message.specs.Reader.{standardAt, tailAt, accepted, readMessage}
+use Rattle.message.specs.Reader.{standardAt, tailAt, nsOf, accepted, readMessage}
 use Rattle.message.proofs.Fields.{parts-fine, parts-fit}
 use Rattle.message.proofs.Checked.{fields-fine, ns-behind}
 use Rattle.writer.specs.Meaning.{allShaped, ascending, allParented}
 use Rattle.writer.specs.Written.{run, from}
-use Rattle.writer.specs.Writer.{sent, nsAgrees, messageOctets, writeMessage}
+use Rattle.writer.specs.Writer.{sent, nsAgrees, messageOctets, writeMessage, Writable}
 use Rattle.writer.proofs.Growing.{within-at, in-either, in-front}
 use Rattle.writer.proofs.Meanings.{Meant, between-within, meaning-join}
 use Rattle.writer.proofs.Announcing.{field-seven, tail-agrees}
-use Rattle.writer.proofs.RoundTrip.{nsOf, Writable, writable-sent, accepted-readable}
+use Rattle.writer.proofs.RoundTrip.{writable-sent, accepted-readable}
 use Rattle.names.specs.Named.{rowsUnder, rowAt, rowOf, namedCode, keeps}
 use Rattle.names.specs.Masks.{only}
 use Rattle.names.specs.declared.Keep.the-variants.{All, Named}

@@ -12,7 +12,8 @@ use Rattle.tree.specs.Block.{numbers, behind, ended}
 use Rattle.tree.specs.Codes.{groupBehind}
 use Rattle.writer.specs.Written.{block, marked}
 use Rattle.writer.specs.Writer.{isEmpty}
-use Rattle.names.specs.Masks.{nparPlaces, sparPlaces, keptPlace, only}
+use Rattle.names.specs.Masks.{nparPlaces, sparPlaces, only}
+use Rattle.names.specs.Inner.{keptPlace}
 use Rattle.names.specs.declared.Keep.{Keep}
 use Rattle.names.specs.declared.Keep.the-variants.{All, Named}
 use Rattle.names.specs.declared.Places.{Places}

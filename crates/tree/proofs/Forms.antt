@@ -20,7 +20,8 @@ use Rattle.octets.specs.Places.{pick}
 use Rattle.tree.specs.Block.{keep, setBits, blockNumbers, blockEnd, behind, announced, ended}
 use Rattle.tree.specs.Codes.{subsBehind, groupBehind, parsBehind, restBehind, fieldBehind}
 use Rattle.tree.specs.Form.{andThen, isFine, blockForm, formAt, lastForm, subsForm, groupForm, parsForm, restForm, fieldForm}
-use Rattle.tree.specs.Fields.{Reaches, reachOf, formIn, groupIn}
+use Rattle.tree.specs.Fields.{reachOf, formIn, groupIn}
+use Rattle.tree.specs.Inner.{Reaches}
 use Rattle.tree.specs.declared.Form.{Form}
 use Rattle.tree.specs.declared.Form.the-variants.{Fine, Early, Wrong, Left, BadLength}
 use Rattle.tree.specs.declared.Reach.{Reach}

@@ -1,10 +1,9 @@
--- The total functions over a field: its codes and its form in a message's octets, of which there are 64 at most; numbers as octets; and
+-- To be believed: the total functions over a field: its codes and its form in a message's octets, of which there are 64 at most; numbers as octets; and
 -- one list in another.
 -- Assumes nothing.
 use Prim.Native.Nat.{ℕ, _+_, _/_, _%_}
 use mathlib.Core.Bool.{Bool, true, false}
 use mathlib.Core.List.{List, [], _∷_}
-use mathlib.Core.Path.{_≡_}
 use lib.Dec.{ltb, eqb}
 use lib.ListN.{length}
 use Rattle.octets.specs.Places.{pick}
@@ -13,7 +12,7 @@ use Rattle.tree.specs.Form.{isFine, fieldForm}
 use Rattle.tree.specs.declared.Field.{Field}
 use Rattle.tree.specs.declared.Field.the-variants.{Identification, Standard}
 use Rattle.tree.specs.declared.Form.{Form}
-use Rattle.tree.specs.declared.Form.the-variants.{Fine, Left}
+use Rattle.tree.specs.declared.Form.the-variants.{Left}
 use Rattle.tree.specs.declared.Reach.{Reach}
 
 abbrev pub baseOf : Field → ℕ
@@ -27,11 +26,6 @@ codesIn f l at = pick (ltb 64 (length l)) [] (fieldCodes (baseOf f) l at)
 -- the form of a field; in more octets than a message has, the 65th is left over
 unfoldable pub formIn : List ℕ → ℕ → Form
 formIn l at = pick (ltb 64 (length l)) (Left 64) (fieldForm l at)
-
--- a form, and where it is fine the place behind. Inner
-pub record Reaches (form : Form) (end : ℕ) (r : Reach) : Type 0 where
-  pub told : r .form ≡ form
-  pub at : form ≡ Fine → r .at ≡ end
 
 -- what is told of a field: its form, and the place behind it, or 0 where it is not fine
 abbrev pub reachOf : Form → ℕ → Reach

@@ -3,3 +3,5 @@ pub mod Codes
 pub mod Form
 pub mod Fields
 pub mod Order
+pub mod Inner
+pub mod Contracts

@@ -1,4 +1,4 @@
--- The order of codes.
+-- Inner: the order of codes.
 -- Assumes nothing.
 use Prim.Native.Nat.{ℕ, _<_, _≤_}
 use mathlib.Core.List.{List, [], _∷_}

@@ -1,13 +1,14 @@
 // The parameter tree of one field (V.8 bis 8.2): whether it is well-formed, and the places of its blocks.
 ghost use Prim.Native.Nat.{_+_, _/_, _^_, _≤_, _<_};
 ghost use Rattle.octets.specs.Bits.{odd};
-ghost use Rattle.octets.specs.Lay.{over};
 ghost use Rattle.octets.specs.Places.{pick};
-ghost use Rattle.tree.specs.Block.{behind, announced, ended};
+ghost use Rattle.tree.specs.Block.{behind, announced};
 ghost use Rattle.tree.specs.Codes.{subsBehind, groupBehind, parsBehind, restBehind, fieldBehind};
-ghost use Rattle.tree.specs.Form.{isFine, formAt, subsForm, groupForm, parsForm, restForm};
-ghost use Rattle.tree.specs.Fields.{baseOf, codesIn, formIn, reachOf, Reaches, hasSpar, groupIn};
-ghost use lib.ListN.{length, set};
+ghost use Rattle.tree.specs.Form.{formAt, subsForm, groupForm, parsForm, restForm};
+ghost use Rattle.tree.specs.Fields.{formIn};
+ghost use Rattle.tree.specs.Inner.{Reaches};
+ghost use Rattle.tree.specs.Contracts.{TellsBit8, TellsFine, TellsForm, TellsBase, TellsSpar, TellsTopBehind, TellsBlockBehind, TellsGroupBehind};
+ghost use lib.ListN.{length};
 ghost use mathlib.Core.Path.{_≡_};
 
 // The octets of the longest message.
@@ -88,7 +89,7 @@ fn ones_in(s: &[u8], m: u8, w: usize, e: usize) -> usize
 
 // Bit 8 of the octet before a place; behind the end it is not set.
 pub fn bit8(s: &[u8], e: usize) -> bool
-    ensures { λ r. ⌜ r ≡ ended (now (s .entry)) e ⌝ }
+    ensures { λ r. ⌜ TellsBit8 (now (s .entry)) e r ⌝ }
 {
     let mut i = 0usize;
     if 0 < e {
@@ -102,7 +103,7 @@ pub fn bit8(s: &[u8], e: usize) -> bool
 
 // Whether no rule is broken.
 pub fn is_fine(form: Form) -> bool
-    ensures { λ r. ⌜ r ≡ isFine form ⌝ }
+    ensures { λ r. ⌜ TellsFine form r ⌝ }
 {
     match form {
         Form::Fine => true,
@@ -228,7 +229,7 @@ fn field_at(s: &[u8], at: usize) -> Reach
 
 // The form of the field at a place, and the place behind it, or 0 where it is not fine.
 pub fn field_form(s: &[u8], at: usize) -> Reach
-    ensures { λ r. ⌜ r ≡ reachOf (formIn (now (s .entry)) at) (fieldBehind (now (s .entry)) at) ⌝ }
+    ensures { λ r. ⌜ TellsForm (now (s .entry)) at r ⌝ }
 {
     let reach = field_at(s, at);
     let form = reach.form;
@@ -240,7 +241,7 @@ pub fn field_form(s: &[u8], at: usize) -> Reach
 
 // What the codes of a field stand above.
 pub fn base_of(field: Field) -> u32
-    ensures { λ r. ⌜ r ≡ baseOf field ⌝ }
+    ensures { λ r. ⌜ TellsBase field r ⌝ }
 {
     match field {
         Field::Identification => 134217728,
@@ -250,7 +251,7 @@ pub fn base_of(field: Field) -> u32
 
 // Whether the standard field at a place has an SPar(1): whether its SPar(1) block announces anything.
 pub fn has_spar(s: &[u8], at: usize) -> bool
-    ensures { λ r. ⌜ r ≡ hasSpar (codesIn Field.Standard (now (s .entry)) at) ⌝ }
+    ensures { λ r. ⌜ TellsSpar (now (s .entry)) at r ⌝ }
 {
     if MOST_OCTETS < s.len() {
         return false;
@@ -261,7 +262,7 @@ pub fn has_spar(s: &[u8], at: usize) -> bool
 
 // The place behind the block at a place, at level 1.
 pub fn top_behind(s: &[u8], e: usize) -> usize
-    ensures { λ r. ⌜ r ≡ behind 128 (now (s .entry)) e ⌝ }
+    ensures { λ r. ⌜ TellsTopBehind (now (s .entry)) e r ⌝ }
 {
     let block = block_at(s, 128, e);
     block.at
@@ -269,7 +270,7 @@ pub fn top_behind(s: &[u8], e: usize) -> usize
 
 // The place behind the block at a place, below level 1.
 pub fn block_behind(s: &[u8], e: usize) -> usize
-    ensures { λ r. ⌜ r ≡ behind 64 (now (s .entry)) e ⌝ }
+    ensures { λ r. ⌜ TellsBlockBehind (now (s .entry)) e r ⌝ }
 {
     let block = block_at(s, 64, e);
     block.at
@@ -290,7 +291,7 @@ fn blocks_behind(s: &[u8], count: usize, start: usize) -> usize
 
 // The place behind what stands in a Par(2) block behind its NPar(2), which ends before a place.
 pub fn group_behind(s: &[u8], e: usize) -> usize
-    ensures { λ r. ⌜ r ≡ groupIn (now (s .entry)) e ⌝ }
+    ensures { λ r. ⌜ TellsGroupBehind (now (s .entry)) e r ⌝ }
 {
     if MOST_OCTETS < s.len() {
         return e;

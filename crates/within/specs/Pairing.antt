@@ -1,4 +1,4 @@
--- One field held beside another, block by block. Inner: no public contract cites it. l and t are the octets of the two; a pair has
+-- Inner: one field held beside another, block by block. l and t are the octets of the two; a pair has
 -- the places behind what was looked at in each, and whether all of the first was found in the second.
 -- Assumes nothing.
 use Prim.Native.Nat.{ℕ, _+_}

@@ -1,11 +1,11 @@
 // One field held beside another, block by block: whether all codes of the one are codes of the other.
 ghost use Prim.Native.Nat.{_+_, _/_, _^_, _≤_, _<_};
 ghost use Rattle.tree.specs.Block.{behind};
-ghost use Rattle.tree.specs.Fields.{codesIn, allIn, hasFirst};
-ghost use lib.ListN.{length, set, getD};
+ghost use lib.ListN.{length, getD};
 ghost use mathlib.Core.Bool.{true};
 ghost use mathlib.Core.Path.{_≡_};
 ghost use Rattle.within.specs.Pairing.{nextPlace, BlockWithin, BlockEmpty, GroupWithin, subs, pars, OneWithin, OctetWithin, AllWithin, FieldWithin};
+ghost use Rattle.within.specs.Contracts.{TellsFirst, TellsWithin};
 use tree::Field;
 use tree::bit8;
 use tree::block_behind;
@@ -27,7 +27,7 @@ fn octet_or_zero(s: &[u8], i: usize) -> u8
 
 // Whether the field at a place has a position of the first octet of its NPar(1), from 1 to 7.
 pub fn has_first(s: &[u8], at: usize, field: Field, q: u32) -> bool
-    ensures { λ r. ⌜ r ≡ hasFirst field (now (s .entry)) at q ⌝ }
+    ensures { λ r. ⌜ TellsFirst (now (s .entry)) at field q r ⌝ }
 {
     if MOST_OCTETS < s.len() {
         return false;
@@ -316,7 +316,7 @@ fn field_within(s: &[u8], i: usize, t: &[u8], j: usize) -> bool
 
 // Whether all codes of the field at a place are codes of the same field in other octets.
 pub fn lies_within(s: &[u8], i: usize, t: &[u8], j: usize, field: Field) -> bool
-    ensures { λ r. ⌜ r ≡ allIn (codesIn field (now (s .entry)) i) (codesIn field (now (t .entry)) j) ⌝ }
+    ensures { λ r. ⌜ TellsWithin (now (s .entry)) i (now (t .entry)) j field r ⌝ }
 {
     if MOST_OCTETS < s.len() {
         return true;

@@ -20,14 +20,14 @@ use Rattle.tree.specs.declared.Form.the-variants.{Fine, Left}
 use Rattle.tree.proofs.Forms.{is-fine, and-parts, field-fits}
 use Rattle.message.specs.Kinds.{known, hasFields, typeOf, revisionOf, firstOctet}
 use Rattle.message.specs.Nonstandard.{nsAnnounced, nsForm, tailForm}
-use Rattle.message.specs.Reader.{mostOctets, listRoom, standardAt, tailAt, messageForm, messageCodes, nsPlace, nsSize, Reading, accepted, refusedIf, judged, readMessage}
+use Rattle.message.specs.Reader.{mostOctets, listRoom, standardAt, tailAt, messageForm, messageCodes, nsOf, Reading, accepted, refusedIf, judged, readMessage}
 use Rattle.message.proofs.Reading.{by-form, form-fields, codes-fields, form-one, codes-none}
 use Rattle.message.proofs.Accepted.{accepted-fine}
 use Rattle.message.proofs.Room.{codes-fit}
 use Rattle.writer.specs.Meaning.{allShaped, ascending, allParented}
 use Rattle.writer.specs.Written.{block, marked, run, from, written}
 use Rattle.writer.specs.Minimal.{both, fieldMinimal, messageMinimal}
-use Rattle.writer.specs.Writer.{Writing, sent, declinedIf, isEmpty, endsThere, nsAgrees, messageOctets, checkedWriting, listWriting, writeMessage}
+use Rattle.writer.specs.Writer.{Writing, sent, declinedIf, isEmpty, endsThere, nsAgrees, messageOctets, checkedWriting, listWriting, writeMessage, Writable}
 use Rattle.writer.proofs.Trees.{Sub, sub, Par, par, Tree, tree, subPlaces, parPlaces, subsOctets, lowerOctets, parOctets, parsOctets, treeOctets, Rising, GoodSubs, GoodPars, GoodTree}
 use Rattle.writer.proofs.Blocks.{Ends, last, more, block-made}
 use Rattle.writer.proofs.Growing.{Within, within-at, treeOf, written-tree}
@@ -35,10 +35,6 @@ use Rattle.writer.proofs.Meanings.{Meant, tree-means, grown, written-gr
 use Rattle.writer.proofs.Reading.{tree-read, treeAt, tree-codes, tree-good}
 use Rattle.writer.proofs.Minimals.{both-true, minimal-stands, never-longer}
 use Rattle.writer.proofs.Announcing.{announced-fields, tail-agrees}
-
--- the NS of a message
-abbrev pub nsOf : List ℕ → List ℕ
-nsOf l = take (nsSize l) (drop (nsPlace l) l)
 
 -- ---- what success tells
 
@@ -51,19 +47,6 @@ past-declined false k w os h = (refl, h)
 past-refused : (t : Bool) (k : ℕ) (r : Reading) → refusedIf t k r ≡ accepted → (t ≡ false) × (r ≡ accepted)
 past-refused true k r h = (cc, cc)
 past-refused false k r h = (refl, h)
-
--- all that the writer asks for, and the octets that it gives
-pub record Writable (kind revision : ℕ) (list ns : List ℕ) (room : ℕ) (os : List ℕ) : Type 0 where
-  pub space : 64 ≤ room
-  pub known-kind : known kind ≡ true
-  pub low : revision ≤ 15
-  pub shapes : allShaped list ≡ true
-  pub up : ascending list ≡ true
-  pub parents : allParented list list ≡ true
-  pub ends : endsThere kind list ns ≡ true
-  pub agrees : nsAgrees list ns ≡ true
-  pub few : length os ≤ 64
-  pub octets : messageOctets kind revision list ns ≡ os
 
 -- what is written met all of it
 pub sent-writable : (kind revision : ℕ) (list ns : List ℕ) (room : ℕ) (os : List ℕ) → writeMessage kind revision list ns room ≡ sent os → Writable kind revision list ns room os

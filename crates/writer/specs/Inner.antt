@@ -1,5 +1,5 @@
--- What the inner functions of the writer do to a buffer of 64 octets. A place counts the octets put, and 65 says that they were too
--- many. Inner: no public contract cites it.
+-- Inner: what the inner functions of the writer do to a buffer of 64 octets. A place counts the octets put, and 65 says that they
+-- were too many.
 -- Assumes nothing.
 use Prim.Native.Nat.{ℕ, _+_, _%_, _≤_, _<_, min}
 use mathlib.Core.Bool.{Bool, true}

@@ -3,3 +3,4 @@ pub mod Written
 pub mod Minimal
 pub mod Writer
 pub mod Inner
+pub mod Contracts

@@ -1,6 +1,6 @@
--- What the message writer answers, by document 01's numbers, and what it leaves in the output.
+-- To be believed: what the message writer answers, by document 01's numbers, and what it leaves in the output.
 -- Assumes nothing.
-use Prim.Native.Nat.{ℕ}
+use Prim.Native.Nat.{ℕ, _≤_}
 use mathlib.Core.Bool.{Bool, true, false, not}
 use mathlib.Core.List.{List, [], _∷_, _++_}
 use mathlib.Core.Path.{_≡_}
@@ -77,6 +77,19 @@ writeMessage kind revision list ns room =
     (declinedIf (not (known kind)) 3
     (declinedIf (ltb 15 revision) 3
     (listWriting kind revision list ns)))
+
+-- all that the writer asks for, and the octets that it gives
+pub record Writable (kind revision : ℕ) (list ns : List ℕ) (room : ℕ) (os : List ℕ) : Type 0 where
+  pub space : 64 ≤ room
+  pub known-kind : known kind ≡ true
+  pub low : revision ≤ 15
+  pub shapes : allShaped list ≡ true
+  pub up : ascending list ≡ true
+  pub parents : allParented list list ≡ true
+  pub ends : endsThere kind list ns ≡ true
+  pub agrees : nsAgrees list ns ≡ true
+  pub few : length os ≤ 64
+  pub octets : messageOctets kind revision list ns ≡ os
 
 -- a reply: document 01's number, 0 for success, and the number of octets
 pub record Reply : Type 0 where

@@ -10,8 +10,9 @@ ghost use Rattle.writer.specs.Meaning.{shaped, allShaped, ascending, all
 ghost use Rattle.writer.specs.Written.{passed, skipped, carried, block, run, from, positions, subsWritten, lowerWritten, parWritten, parsWritten, written};
 ghost use Rattle.message.specs.Kinds.{known};
 ghost use Rattle.message.specs.Reader.{mostOctets};
-ghost use Rattle.writer.specs.Writer.{endsThere, nsAgrees, messageOctets, unlessLong, checkedWriting, listWriting, writeMessage, Writes};
+ghost use Rattle.writer.specs.Writer.{endsThere, nsAgrees, messageOctets, unlessLong, checkedWriting, listWriting, Writes};
 ghost use Rattle.writer.specs.Inner.{standsUnder, Puts, Between};
+ghost use Rattle.writer.specs.Contracts.{MessageWrites};
 use message::is_known;
 use message::ns_form;
 use octets::copy_front;
@@ -444,7 +445,7 @@ pub fn write_message(
     ns: &[u8],
     out: &mut [u8],
 ) -> MessageWritten
-    ensures { λ r. ⌜ Writes (writeMessage kind revision (now (list .entry)) (now (ns .entry)) (length (now (out .entry)))) (now (out .entry)) r (now (out .exit)) ⌝ }
+    ensures { λ r. ⌜ MessageWrites kind revision (now (list .entry)) (now (ns .entry)) (now (out .entry)) r (now (out .exit)) ⌝ }
 {
     if out.len() < MOST_OCTETS {
         return MessageWritten::SmallOutput;

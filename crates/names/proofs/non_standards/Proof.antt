@@ -7,7 +7,8 @@ use borrow.Author.Tests.{ne-eqb}
 use lib.Dec.{eqb}
 use Rattle.tree.specs.Codes.{codeOf}
 use Rattle.names.specs.Tables.{nparBlocks}
-use Rattle.names.specs.Named.{rowsUnder, isNonStandard}
+use Rattle.names.specs.Named.{rowsUnder}
+use Rattle.names.specs.Inner.{isNonStandard}
 use Rattle.names.specs.Masks.{maskOf}
 use Rattle.names.proofs.Arms.{Missed, missed}
 use Rattle.names.proofs.Blocks.{every, mask-at, mask-zero, mask-low, mask-high}

@@ -1,0 +1,17 @@
+-- Inner: the non-standard rows, and one position of those that are kept.
+-- Assumes nothing.
+use Prim.Native.Nat.{ℕ, _-_, _/_, _^_}
+use mathlib.Core.Bool.{Bool, true, false}
+use Rattle.octets.specs.Bits.{odd}
+use Rattle.octets.specs.Places.{pick}
+use Rattle.names.specs.Tables.{Row, named, nonStandard, reserved}
+use Rattle.names.specs.declared.Places.{Places}
+
+abbrev pub isNonStandard : Row → Bool
+isNonStandard named = false
+isNonStandard nonStandard = true
+isNonStandard reserved = false
+
+-- whether a position, counted from 1, is kept
+abbrev pub keptPlace : Places → ℕ → Bool
+keptPlace p q = pick (p .all) true (odd (p .bits / 2 ^ (q - 1)))

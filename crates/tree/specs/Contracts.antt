@@ -1,0 +1,46 @@
+-- To be believed: what each public function promises, in the words that its `ensures` and the demands cite.
+-- Assumes nothing.
+use Prim.Native.Nat.{ℕ}
+use mathlib.Core.Bool.{Bool}
+use mathlib.Core.List.{List}
+use mathlib.Core.Path.{_≡_}
+use Rattle.tree.specs.Block.{behind, ended}
+use Rattle.tree.specs.Codes.{fieldBehind}
+use Rattle.tree.specs.Form.{isFine}
+use Rattle.tree.specs.Fields.{baseOf, codesIn, formIn, reachOf, hasSpar, groupIn}
+use Rattle.tree.specs.declared.Field.{Field}
+use Rattle.tree.specs.declared.Field.the-variants.{Standard}
+use Rattle.tree.specs.declared.Form.{Form}
+use Rattle.tree.specs.declared.Reach.{Reach}
+
+-- bit8
+abbrev pub TellsBit8 : List ℕ → ℕ → Bool → Type 0
+TellsBit8 s e r = r ≡ ended s e
+
+-- is_fine
+abbrev pub TellsFine : Form → Bool → Type 0
+TellsFine form r = r ≡ isFine form
+
+-- field_form
+abbrev pub TellsForm : List ℕ → ℕ → Reach → Type 0
+TellsForm s at r = r ≡ reachOf (formIn s at) (fieldBehind s at)
+
+-- base_of
+abbrev pub TellsBase : Field → ℕ → Type 0
+TellsBase field r = r ≡ baseOf field
+
+-- has_spar
+abbrev pub TellsSpar : List ℕ → ℕ → Bool → Type 0
+TellsSpar s at r = r ≡ hasSpar (codesIn Standard s at)
+
+-- top_behind
+abbrev pub TellsTopBehind : List ℕ → ℕ → ℕ → Type 0
+TellsTopBehind s e r = r ≡ behind 128 s e
+
+-- block_behind
+abbrev pub TellsBlockBehind : List ℕ → ℕ → ℕ → Type 0
+TellsBlockBehind s e r = r ≡ behind 64 s e
+
+-- group_behind
+abbrev pub TellsGroupBehind : List ℕ → ℕ → ℕ → Type 0
+TellsGroupBehind s e r = r ≡ groupIn s e
