@@ -6,18 +6,22 @@ use mathlib.Core.List.{List, [], _∷_}
 use mathlib.Core.Logic.{_⊎_, inl, inr, _↔_}
 use mathlib.Core.Path.{_≡_, refl, sym, ap, _∙_}
 use native.Mathlib.Omega.{arith}
+use lib.Dec.{eqb}
 use lib.ListN.{length}
 use Rattle.octets.specs.Places.{pick}
 use Rattle.tree.specs.Fields.{isIn}
+use Rattle.message.specs.Reader.{listRoom, Reading, refused, accepted, readMessage}
+use Rattle.message.proofs.Accepted.{accepted-passed}
 use Rattle.names.specs.Named.{namedCode}
 use Rattle.choice.specs.Wishes.{wishesOf}
 use Rattle.choice.specs.Judging.{fitsSome, fitsReady, verdict}
-use Rattle.choice.proofs.Judged.{accepted, not-ready, no-fit, unnamed-code}
+use Rattle.choice.proofs.Judged as judging
 use Rattle.choice.proofs.Tabled.{tables-good}
 use Rattle.choice.proofs.Truths.{never}
 use Rattle.table.specs.declared.Phase.{Phase}
 use Rattle.table.specs.declared.Phase.the-variants.{Initial, Mode}
 use Rattle.table.specs.declared.Heard.{Heard}
+use Rattle.table.specs.declared.Heard.the-variants.{Spoilt}
 use Rattle.table.specs.declared.Act.{Act}
 use Rattle.table.specs.declared.Act.the-variants.{NoRow, SendMrE, SendMrD, CounterMrD, SendCrE, SendCrD, Propose, SendCl, SendClr, PairClr, Take, Judge, Agree, GiveUp, SendNak1}
 use Rattle.table.specs.declared.After.the-variants.{ThenMs, ThenClMs, ThenCl, ThenHalf}
@@ -25,7 +29,12 @@ use Rattle.table.specs.Phases.{kindOf, wishOf, ackOf}
 use Rattle.table.specs.Bound.{leadsTo}
 use Rattle.station.specs.Sending.{sentAck, sentNak}
 use Rattle.station.specs.Acting.{Outcome, quiet, sends, asksAck, judges}
+use Rattle.station.specs.Sorting.{Sort, known, strange, sortOf, fieldHeard}
 use Rattle.station.specs.Stepping.{isMode}
+use Rattle.station.specs.Inner.{isMessage, needsField}
+use Rattle.station.specs.declared.Event.{Event}
+use Rattle.station.specs.declared.Event.the-variants.{Begin, Tones, Field, InvalidFrame, Answer, Reset}
+use Rattle.station.proofs.Needing.{needs-message, start-bare, signal-bare}
 use Rattle.station.proofs.Sendings.{ack-octet, nak-octet}
 use Rattle.demands.specs.Given.{Given, steps, actOn, doing, Passes, standardHeard}
 use Rattle.demands.specs.Sent.{IsField, farSays}
@@ -57,15 +66,40 @@ mode-judged g few = go (verdicts g) refl
   where
     go : {v : ℕ} → Verdicts v → verdictOn g ≡ v → Judged g (judges v (g .field) (g .time))
     go fits-ready e =
-        let f = accepted (standardHeard g) (wishesOf (g .run)) e in
+        let f = judging.accepted (standardHeard g) (wishesOf (g .run)) e in
         let stored = mode-is-stored (g .field) few in
         by-test (farSays 4 g)
         (λ a. asked (f .0) (f .1) _ stored a (rw (a, ack-octet)))
         (λ a. unasked (f .0) (f .1) _ stored a (rw a))
-    go fits-unready e = let f = not-ready (standardHeard g) (wishesOf (g .run)) e in unready (f .0) (f .1) (rw (nak-octet 2))
-    go fits-none e = unfit (no-fit (standardHeard g) (wishesOf (g .run)) e) (rw (nak-octet 3))
+    go fits-unready e = let f = judging.not-ready (standardHeard g) (wishesOf (g .run)) e in unready (f .0) (f .1) (rw (nak-octet 2))
+    go fits-none e = unfit (judging.no-fit (standardHeard g) (wishesOf (g .run)) e) (rw (nak-octet 3))
 
--- in a step: only a message that was accepted is judged, so it has at most 64 octets
+-- only a message with fields that the reader accepted is heard as one, so it has at most 64 octets
+abbrev asMessage : Sort → Bool
+asMessage (known h) = isMessage h
+asMessage strange = false
+
+message-few : (event : Event) (m : List ℕ) → asMessage (sortOf event m) ≡ true → length m ≤ 64
+message-few (Begin s) m e = never (sym (start-bare s) ∙ e)
+message-few (Tones s) m e = never (sym (signal-bare s) ∙ e)
+message-few Field m e = go (readMessage m listRoom) refl e
+  where
+    spoilt : (t : Bool) → asMessage (pick t strange (known Spoilt)) ≡ true → length m ≤ 64
+    spoilt true e = never e
+    spoilt false e = never e
+
+    go : (r : Reading) → readMessage m listRoom ≡ r → asMessage (fieldHeard r m) ≡ true → length m ≤ 64
+    go accepted r e = accepted-passed m listRoom r .few
+    go (refused k) r e = spoilt (eqb k 3) e
+message-few InvalidFrame m e = never e
+message-few Answer m e = never e
+message-few Reset m e = never e
+
+judged-few : (p : Phase) (g : Given) {h : Heard} → Passes p g h → actOn p g h ≡ Judge → length (g .field) ≤ 64
+judged-few p g {h} s j =
+    message-few (g .event) (g .field) (ap asMessage (s .heard) ∙ needs-message (kindOf p) (g .set) (ackOf p) h (ap needsField j))
+
+-- so is an MS that a step judges
 pub judged : (p : Phase) (g : Given) {h : Heard} → Passes p g h → actOn p g h ≡ Judge → Judged g (steps p g)
 judged p g {h} s j = rw (follows p g s ∙ rw j) (mode-judged g (judged-few p g s j))
 
@@ -73,7 +107,7 @@ judged p g {h} s j = rw (follows p g s ∙ rw j) (mode-judged g (judged-few p g 
 pub unnamed-nak-3 : (p : Phase) (g : Given) {h : Heard} → Passes p g h → actOn p g h ≡ Judge → (x : ℕ) → isIn x (standardHeard g) ≡ true → namedCode x ≡ false
     → steps p g ≡ sends (0x2a ∷ []) [] [] (Initial (g .time))
 unnamed-nak-3 p g s j x i n =
-    let v = unnamed-code x (standardHeard g) (g .run) (tables-good (g .own) (g .run) (s .due .sound .tables) .wishes) i n in
+    let v = judging.unnamed-code x (standardHeard g) (g .run) (tables-good (g .own) (g .run) (s .due .sound .tables) .wishes) i n in
     follows p g s ∙ rw (j, v, nak-octet 3)
 
 -- ---- Mode is reached by a verdict or by agreement
