@@ -239,7 +239,7 @@ def check_contract(function, unique):
     flat = [tokens[i] for i in outside(tokens)]
     applied = len(flat) > 4 and flat[0] + flat[2] + flat[-1] == "λ⌜⌝" and tokens[3] == flat[3]
     contract = file.find(flat[3]) if applied and all(re.match(r"[\w.«]|\[\]$", token) for token in flat[3:-1]) else None
-    if not contract:
+    if contract not in function.cited():
         return breach(f"{function} does not ensure one contract by its name, and that without a requires")
     if (contract.file.crate, contract.file.part) != (file.crate, "specs"):
         breach(f"{function}: its contract {contract.name} does not stand in crates/{file.crate}/specs")
