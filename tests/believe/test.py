@@ -10,6 +10,8 @@ from pathlib import Path
 sys.dont_write_bytecode = True
 import walk
 
+NAMES = ("DemandTwo", "DemandThree", "PositionsProved", "Cells")
+
 DEMAND = """-- To be believed: {0}, of the test.
 -- Assumes nothing.
 use mathlib.Core.Path.{{_≡_}}
@@ -133,7 +135,8 @@ pub record DemandOne : Type 1 where
   pub tell : OneReply Tells
   pub high-tell : OneReply Signs
 """,
-    **{f"crates/demands/specs/{name}.antt": DEMAND.format(name) for name in ("DemandTwo", "DemandThree", "PositionsProved", "Cells")},
+    "crates/demands/proofs/Demands.antt": "".join(f"pub the-{name} : {name}\nthe-{name} = given\n\n" for name in (*NAMES, "DemandOne")),
+    **{f"crates/demands/specs/{name}.antt": DEMAND.format(name) for name in NAMES},
 }
 
 LISTED = """### The demands
@@ -222,7 +225,15 @@ class Walk(unittest.TestCase):
 
     def test_further_demand(self):
         self.put("crates/demands/proofs/DemandFour.antt", DEMAND.format("DemandFour"))
-        self.breaches("crates/demands/proofs/DemandFour.antt: DemandFour stands in proofs/, reached from the demands")
+        self.breaches("crates/demands/proofs/DemandFour.antt: DemandFour has no proof in crates/demands/proofs",
+                      "crates/demands/proofs/DemandFour.antt: DemandFour stands in proofs/, reached from the demands")
+
+    def test_demand_not_proved(self):
+        for instead in ("pub the-Cells : DemandTwo → Cells", "module _ (c : Cells) where\n  pub the-Cells : Cells\n"):
+            with self.subTest(instead):
+                self.setUp()
+                self.edit("crates/demands/proofs/Demands.antt", "pub the-Cells : Cells\nthe-Cells = given", instead)
+                self.breaches("crates/demands/specs/Cells.antt: Cells has no proof in crates/demands/proofs")
 
     # 2. Each file of specs/ is marked.
 

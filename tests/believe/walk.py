@@ -15,7 +15,7 @@ import sys
 from pathlib import Path
 from textwrap import dedent
 
-# The records that state the demands. Each has to be there; any other of crates/demands whose name begins with Demand is walked from too.
+# The records that state the demands. Each has to be there, and proved; so has any other of crates/demands whose name begins with Demand.
 DEMANDS = ["DemandOne", "DemandTwo", "DemandThree", "PositionsProved", "Cells"]
 # For bench/ alone: its functions pass on to those of the other crates, and promise nothing.
 WITHOUT_CONTRACTS = ["measure"]
@@ -274,6 +274,10 @@ def main(arguments):
         if name not in found:
             tree.breach(f"crates/demands/specs: no record {name}")
     records = [found[name] for name in dict.fromkeys(DEMANDS + list(found)) if name in found]
+    types = [definition.pieces[0][1] for file in tree.glob("crates/demands/proofs/*.antt") for definition in file.definitions]
+    for record in records:
+        if [":", record.name] not in types:
+            tree.breach(f"{record} has no proof in crates/demands/proofs")
     tree.walk(records, "the demands")
     unique = found["DemandOne"].cited() if "DemandOne" in found else []
     for file in tree.glob("crates/*/src/*.rt"):
