@@ -290,6 +290,10 @@ class Walk(unittest.TestCase):
         self.edit(WORDS, "signed r ≡ word at", "signed r ≡ wort at")
         self.breaches(f"{WORDS}: Tells cites wort, which is not to be found")
 
+    def test_item_not_understood(self):
+        self.edit(WORDS, "abbrev pub size", "postulate more : size\n\nabbrev pub size")
+        self.breaches(f"{WORDS}: postulate is not understood")
+
     def test_name_not_in_module(self):
         self.edit(HIGH, "high.Signs sign", "high.Sings sign")
         self.breaches(f"{HIGH}: Rattle.high.specs.High has no Sings", f"{HIGH}: high_tell {FORM}")

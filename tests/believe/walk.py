@@ -159,9 +159,11 @@ class File:
                     self.constructors.update((key, data) for line in lines for key in spellings(line[0]))
             elif tokens[1:2] == [":"]:
                 last = self.define(tokens[0], outer + [("type", tokens[1:])])
-            elif tokens[0] not in ("unfolding", "mod"):
+            elif tokens[0] in self.own or last and "=" in tokens:
                 last = self.own.get(tokens[0], last)
                 last.pieces.append(("clause", tokens[1:]))
+            elif tokens[0] not in ("unfolding", "mod"):
+                self.tree.breach(f"{self.path}: {tokens[0]} is not understood")
 
     def read_rt(self, text):
         for words in re.findall(r"^ghost (use [^;]*);", text, re.M):
