@@ -5,6 +5,7 @@ import io
 import sys
 import tempfile
 import unittest
+import unittest.mock
 from pathlib import Path
 
 sys.dont_write_bytecode = True
@@ -64,7 +65,10 @@ use Prim.Native.Nat.{ℕ, suc, _+_}
 use mathlib.Core.List.{List, [], _∷_}
 use mathlib.Core.Path.{_≡_}
 use Rattle.low.specs.declared.Sign.{Sign}
-use Rattle.low.specs.declared.Sign.the-variants.{Plus, Minus}
+use Rattle.low.specs.declared.Sign.the-variants.{
+  Plus,
+  Minus,
+}
 
 -- this one is cited by patterns and expressions alone
 pub data Kind : Type 0 where
@@ -79,11 +83,16 @@ size (long n) = n + 1
 unfoldable pub word : ℕ → ℕ
 word x = size (long x)
 
+abbrev pub _⊕_ : ℕ → ℕ → ℕ
+a ⊕ suc b = a + b
+
 abbrev pub signed : Sign → ℕ
-signed (Plus n) = 1
+signed (Plus n) = n ⊕ 1
 signed Minus = 0
 
-pub record Tells (run : List ℕ) (at : ℕ) (r : Sign) (more out : List ℕ) : Type 0 where
+pub record Tells (run : List ℕ) (at : ℕ) (
+  r : Sign
+) (more out : List ℕ) : Type 0 where
   pub reply : signed r ≡ word at
   -- a comment
   pub output : (i : ℕ) → let j = suc i in
@@ -204,7 +213,7 @@ class Walk(unittest.TestCase):
     def test_reached(self):
         said = self.walk("--reached")[0].splitlines()
         self.assertEqual([line for line in said if line.startswith("crates/low")],
-                         [f"{WORDS}: {name}" for name in ("Kind", "Tells", "signed", "size", "word")] + [f"{LOW}: {name}" for name in ("Sign", "Size")])
+                         [f"{WORDS}: {name}" for name in ("Kind", "Tells", "_⊕_", "signed", "size", "word")] + [f"{LOW}: {name}" for name in ("Sign", "Size")])
 
     # 1. Nothing that is reached stands in proofs/.
 
@@ -324,6 +333,14 @@ class Walk(unittest.TestCase):
     def test_contract_not_in_demand_one(self):
         self.edit(ONE, "  pub high-tell : OneReply Signs\n", "")
         self.breaches(f"{HIGH}: high_tell: its contract Signs is not cited in DemandOne")
+
+    def test_contract_unique_elsewhere(self):
+        self.edit(ONE, "  pub high-tell : OneReply Signs\n", "")
+        self.put("crates/high/proofs/HighUnique.antt", "use Rattle.high.specs.High.{Signs}\n\npub unique : Signs → Signs\nunique s = s\n")
+        with unittest.mock.patch.dict(walk.UNIQUE_IN, {"high": "crates/high/proofs/HighUnique.antt"}):
+            self.assertEqual(self.walk(), ("", 0))
+            self.edit("crates/high/proofs/HighUnique.antt", "Signs → Signs", "High → High")
+            self.breaches(f"{HIGH}: high_tell: its contract Signs is not cited in crates/high/proofs/HighUnique.antt")
 
     # 5. docs/BELIEVED.md lists what is reached.
 

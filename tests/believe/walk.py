@@ -31,8 +31,8 @@ BLOCK = r"\s+(requires|ensures) \{((?:[^{}]|\{[^{}]*\})*)\}"
 
 
 def items(text):
-    """The items of a text: each a line at the margin, with the indented lines behind it."""
-    return re.findall(r"^\S.*(?:\n(?:[ \t].*)?$)*", text, re.M)
+    """The items of a text: each a line at the margin, with the indented lines behind it, and those that only close what it opened."""
+    return re.findall(r"^[^\s)}].*(?:\n(?:[ \t)}].*)?$)*", text, re.M)
 
 
 def spellings(name):
@@ -131,8 +131,8 @@ class File:
         module, listed, alias = re.match(r"use ([^\s{]+?)(?:\.\{(.*)\}| as (\S+))?$", " ".join(words.split())).groups()
         if alias:
             self.modules[alias] = module
-        for name in filter(None, (listed or "").split(",")):
-            name, _, other = name.strip().partition(" as ")
+        for name in filter(None, re.split(r"\s*,\s*", (listed or "").strip())):
+            name, _, other = name.partition(" as ")
             self.imports.update((key, (module, name)) for key in spellings(other or name))
 
     def define(self, name, pieces):
@@ -161,7 +161,7 @@ class File:
                 last = self.define(tokens[0], outer + [("type", tokens[1:])])
             elif tokens[0] in self.own or last and "=" in tokens:
                 last = self.own.get(tokens[0], last)
-                last.pieces.append(("clause", tokens[1:]))
+                last.pieces.append(("clause", tokens))
             elif tokens[0] not in ("unfolding", "mod"):
                 self.tree.breach(f"{self.path}: {tokens[0]} is not understood")
 
