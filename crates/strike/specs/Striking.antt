@@ -1,16 +1,15 @@
--- Striking a message (document 01, "Striking"): every unnamed parameter and all below it are taken out, octet 1 and NS stay, and the
+-- To be believed: striking a message (document 01, "Striking"): every unnamed parameter and all below it are taken out, octet 1 and NS stay, and the
 -- message is written in minimal form. What it answers, by document 01's numbers, and what it leaves in the output.
 -- Assumes nothing.
-use Prim.Native.Nat.{ℕ, suc, zero}
-use mathlib.Core.List.{List, [], _∷_, _++_}
+use Prim.Native.Nat.{ℕ}
+use mathlib.Core.List.{List, [], _++_}
 use mathlib.Core.Path.{_≡_}
 use lib.Dec.{ltb, eqb}
-use lib.ListN.{length, take, drop}
-use Rattle.octets.specs.Lay.{put}
+use lib.ListN.{length}
 use Rattle.octets.specs.Places.{pick}
 use Rattle.tree.specs.Codes.{fieldBase, fieldCodes}
 use Rattle.message.specs.Kinds.{hasFields, typeOf, revisionOf}
-use Rattle.message.specs.Reader.{mostOctets, listRoom, standardAt, nsPlace, nsSize, Reading, refused, accepted, readMessage}
+use Rattle.message.specs.Reader.{mostOctets, listRoom, standardAt, nsOf, Reading, refused, accepted, readMessage}
 use Rattle.writer.specs.Writer.{Writing, declined, sent, declinedIf, messageOctets, Reply, writeReply, writeLeaves}
 use Rattle.names.specs.Named.{namedCode}
 use Rattle.names.specs.Masks.{only}
@@ -27,7 +26,7 @@ struckCodes l =
 
 -- the struck form: octet 1 and NS as they came
 unfoldable pub struckForm : List ℕ → List ℕ
-struckForm l = messageOctets (typeOf l) (revisionOf l) (struckCodes l) (take (nsSize l) (drop (nsPlace l) l))
+struckForm l = messageOctets (typeOf l) (revisionOf l) (struckCodes l) (nsOf l)
 
 -- 2 to 4 are those of the message reader
 abbrev pub unlessRefused : Reading → List ℕ → Writing
