@@ -5,13 +5,12 @@ import io
 import sys
 import tempfile
 import unittest
-import unittest.mock
 from pathlib import Path
 
 sys.dont_write_bytecode = True
 import walk
 
-NAMES = ("DemandTwo", "DemandThree", "PositionsProved", "Cells")
+NAMES = ("DemandTwo", "DemandThree", "PositionsProved")
 
 DEMAND = """-- To be believed: {0}, of the test.
 -- Assumes nothing.
@@ -154,7 +153,6 @@ LISTED = """### The demands
 - [demands/specs/DemandTwo.antt](../crates/demands/specs/DemandTwo.antt): DemandTwo, of the test.
 - [demands/specs/DemandThree.antt](../crates/demands/specs/DemandThree.antt): DemandThree, of the test.
 - [demands/specs/PositionsProved.antt](../crates/demands/specs/PositionsProved.antt): PositionsProved, of the test.
-- [demands/specs/Cells.antt](../crates/demands/specs/Cells.antt): Cells, of the test.
 
 ### low
 
@@ -229,8 +227,8 @@ class Walk(unittest.TestCase):
         self.breaches("crates/demands/proofs/DemandTwo.antt: DemandTwo stands in proofs/, reached from the demands")
 
     def test_demand_missing(self):
-        (self.root / "crates/demands/specs/Cells.antt").unlink()
-        self.breaches("crates/demands/specs: no record Cells")
+        (self.root / "crates/demands/specs/PositionsProved.antt").unlink()
+        self.breaches("crates/demands/specs: no record PositionsProved")
 
     def test_further_demand(self):
         self.put("crates/demands/proofs/DemandFour.antt", DEMAND.format("DemandFour"))
@@ -238,11 +236,11 @@ class Walk(unittest.TestCase):
                       "crates/demands/proofs/DemandFour.antt: DemandFour stands in proofs/, reached from the demands")
 
     def test_demand_not_proved(self):
-        for instead in ("pub the-Cells : DemandTwo → Cells", "module _ (c : Cells) where\n  pub the-Cells : Cells\n"):
+        for instead in ("pub the-PositionsProved : DemandTwo → PositionsProved", "module _ (c : PositionsProved) where\n  pub the-PositionsProved : PositionsProved\n"):
             with self.subTest(instead):
                 self.setUp()
-                self.edit("crates/demands/proofs/Demands.antt", "pub the-Cells : Cells\nthe-Cells = given", instead)
-                self.breaches("crates/demands/specs/Cells.antt: Cells has no proof in crates/demands/proofs")
+                self.edit("crates/demands/proofs/Demands.antt", "pub the-PositionsProved : PositionsProved\nthe-PositionsProved = given", instead)
+                self.breaches("crates/demands/specs/PositionsProved.antt: PositionsProved has no proof in crates/demands/proofs")
 
     # 2. Each file of specs/ is marked.
 
@@ -333,14 +331,6 @@ class Walk(unittest.TestCase):
     def test_contract_not_in_demand_one(self):
         self.edit(ONE, "  pub high-tell : OneReply Signs\n", "")
         self.breaches(f"{HIGH}: high_tell: its contract Signs is not cited in DemandOne")
-
-    def test_contract_unique_elsewhere(self):
-        self.edit(ONE, "  pub high-tell : OneReply Signs\n", "")
-        self.put("crates/high/proofs/HighUnique.antt", "use Rattle.high.specs.High.{Signs}\n\npub unique : Signs → Signs\nunique s = s\n")
-        with unittest.mock.patch.dict(walk.UNIQUE_IN, {"high": "crates/high/proofs/HighUnique.antt"}):
-            self.assertEqual(self.walk(), ("", 0))
-            self.edit("crates/high/proofs/HighUnique.antt", "Signs → Signs", "High → High")
-            self.breaches(f"{HIGH}: high_tell: its contract Signs is not cited in crates/high/proofs/HighUnique.antt")
 
     # 5. docs/BELIEVED.md lists what is reached.
 

@@ -16,11 +16,9 @@ from pathlib import Path
 from textwrap import dedent
 
 # The records that state the demands. Each has to be there, and proved; so has any other of crates/demands whose name begins with Demand.
-DEMANDS = ["DemandOne", "DemandTwo", "DemandThree", "PositionsProved", "Cells"]
+DEMANDS = ["DemandOne", "DemandTwo", "DemandThree", "PositionsProved"]
 # For bench/ alone: its functions pass on to those of the other crates, and promise nothing.
 WITHOUT_CONTRACTS = ["measure"]
-# Crates that demands does not use, and where it is said, instead of in DemandOne, that no second reply fits their contracts.
-UNIQUE_IN = {"chip": "crates/chip/proofs/ChipUnique.antt"}
 # The words of the language itself.
 LANGUAGE = set(": = → × ⊥ _ ⌜ ⌝ now record let in Type Unit".split())
 
@@ -246,7 +244,7 @@ def check_contract(function, unique):
     if (contract.file.crate, contract.file.part) != (file.crate, "specs"):
         breach(f"{function}: its contract {contract.name} does not stand in crates/{file.crate}/specs")
     if contract not in unique:
-        breach(f"{function}: its contract {contract.name} is not cited in {UNIQUE_IN.get(file.crate, 'DemandOne')}")
+        breach(f"{function}: its contract {contract.name} is not cited in DemandOne")
 
 
 def listed(tree, records):
@@ -284,10 +282,9 @@ def main(arguments):
     unique = found["DemandOne"].cited() if "DemandOne" in found else []
     for file in tree.glob("crates/*/src/*.rt"):
         if tree.glob(f"crates/{file.crate}/src/lib.rt") and file.crate not in WITHOUT_CONTRACTS:
-            beside = [definition for other in tree.glob(UNIQUE_IN.get(file.crate, "none")) for definition in other.definitions]
             for function in file.functions:
                 tree.walk(function.cited(), function.name)
-                check_contract(function, unique + [cited for definition in beside for cited in definition.cited()])
+                check_contract(function, unique)
 
     for file in tree.glob("crates/*/specs/**/*.antt"):
         reached = [definition for definition in file.definitions if definition in tree.reached]
