@@ -3,7 +3,7 @@
  *   bench check   compares both on every measured input and on many more; fails at the first difference
  *   bench cases   lists the measurements, a line for each, in the order in which 'count' makes them
  *   bench count   makes each once, for callgrind, which collects inside the measured functions alone and dumps at measured()
- *   bench stack   the peak stack of each function, by a painted stack
+ *   bench stack   the peak stack of each operation from its own entry, by a painted stack
  */
 #include <stdint.h>
 #include <stdio.h>
@@ -36,6 +36,10 @@ step kamvezhor_measure_list, plain_measure_list, kamvezhor_measure_mode, plain_m
 read_frame plain_read_frame;
 write_frame plain_write_frame;
 read_message plain_read_message;
+
+/* Where a function begins. The steps alone, without the functions above that call them, are local: bench/run gives them these names. */
+typedef void entry(void);
+entry step_ours, step_plain;
 
 /* What an operation is called with; each looks at its own part. */
 struct input {
@@ -173,24 +177,28 @@ static void start_spandsp(void)
 static void start_spandsp(void) { }
 #endif
 
-/* The operations. The limit is that of the stack. */
+/* The operations. The limit is that of the stack, which is measured from the two entries. */
 struct operation {
     const char *name, *function;
     size_t limit;
     job *ours, *plain, *spandsp;
+    entry *ours_entry, *plain_entry;
 };
 
 enum { FRAME_READER, FRAME_WRITER, LIST_READER, OCTET_READER, MESSAGE_WRITER, STRIKING, STEP_LIST, STEP_MODE, OPERATIONS };
 
+#define BOTH_JOBS(name) job_ours_##name, job_plain_##name
+#define BOTH_ENTRIES(name) (entry *)kamvezhor_##name, (entry *)plain_##name
+
 static const struct operation operations[OPERATIONS] = {
-    {"frame reader", "read_frame", 512, job_ours_frame_reader, job_plain_frame_reader, job_spandsp_frame_reader},
-    {"frame writer", "write_frame", 512, job_ours_frame_writer, job_plain_frame_writer, job_spandsp_frame_writer},
-    {"message reader, numbers", "measure_read", 512, job_ours_list_reader, job_plain_list_reader, NULL},
-    {"message reader, octets", "read_message", 512, job_ours_octet_reader, job_plain_octet_reader, NULL},
-    {"message writer", "measure_write", 512, job_ours_message_writer, job_plain_message_writer, NULL},
-    {"striking", "measure_strike", 512, job_ours_striking, job_plain_striking, NULL},
-    {"station step on a list", "measure_list", 1024, job_ours_step_list, job_plain_step_list, NULL},
-    {"station step on an MS", "measure_mode", 1024, job_ours_step_mode, job_plain_step_mode, NULL},
+    {"frame reader", "read_frame", 512, BOTH_JOBS(frame_reader), job_spandsp_frame_reader, BOTH_ENTRIES(read_frame)},
+    {"frame writer", "write_frame", 512, BOTH_JOBS(frame_writer), job_spandsp_frame_writer, BOTH_ENTRIES(write_frame)},
+    {"message reader, numbers", "measure_read", 512, BOTH_JOBS(list_reader), NULL, BOTH_ENTRIES(measure_read)},
+    {"message reader, octets", "read_message", 512, BOTH_JOBS(octet_reader), NULL, BOTH_ENTRIES(read_message)},
+    {"message writer", "measure_write", 512, BOTH_JOBS(message_writer), NULL, BOTH_ENTRIES(measure_write)},
+    {"striking", "measure_strike", 512, BOTH_JOBS(striking), NULL, BOTH_ENTRIES(measure_strike)},
+    {"station step on a list", "measure_list", 1024, BOTH_JOBS(step_list), NULL, step_ours, step_plain},
+    {"station step on an MS", "measure_mode", 1024, BOTH_JOBS(step_mode), NULL, step_ours, step_plain},
 };
 
 static struct result one, other, third;
@@ -687,15 +695,28 @@ static const struct input *stack_input;
 
 static void run_on_stack(void) { stack_job(stack_input, &one); }
 
-static void do_nothing(const struct input *in, struct result *r)
+extern const uint8_t __executable_start[], etext[];
+
+/* The stack at a function's entry: the highest word that points behind a call of it (E8 and how far) is the return address. What lies
+   above, arguments too, belongs to its caller. */
+static size_t place_of_entry(entry *function)
 {
-    (void)in;
-    (void)r;
+    for (size_t at = sizeof stack - 8; at > 0; at -= 8) {
+        const uint8_t *back;
+        int32_t distance;
+        memcpy(&back, stack + at, sizeof back);
+        if (back < __executable_start + 5 || back >= etext || back[-5] != 0xE8)
+            continue;
+        memcpy(&distance, back - 4, sizeof distance);
+        if ((uintptr_t)(back + distance) == (uintptr_t)function)
+            return at;
+    }
+    fprintf(stderr, "bench: an operation was not called where its stack is measured\n");
+    exit(2);
 }
 
-static size_t peak(job *j, const struct input *in)
+static void run_on_painted_stack(job *j, const struct input *in)
 {
-    size_t untouched = 0;
     memset(stack, PAINT, sizeof stack);
     stack_job = j;
     stack_input = in;
@@ -705,23 +726,30 @@ static size_t peak(job *j, const struct input *in)
     there.uc_link = &here;
     makecontext(&there, run_on_stack, 0);
     swapcontext(&here, &there);
+}
+
+/* The octets of stack from a function's entry down, its return address with them. */
+static size_t peak(job *j, entry *function, const struct input *in)
+{
+    size_t untouched = 0;
+    run_on_painted_stack(j, in);
     while (untouched < sizeof stack && stack[untouched] == PAINT)
         untouched++;
     /* the lowest word may have kept some of its paint */
-    return sizeof stack - untouched / 8 * 8;
+    return place_of_entry(function) + 8 - untouched / 8 * 8;
 }
 
 static void measure_stack(void)
 {
     for (int operation = 0; operation < OPERATIONS; operation++) {
         const struct operation *o = &operations[operation];
-        size_t ours = 0, plain = 0, base = peak(do_nothing, NULL), octets;
+        size_t ours = 0, plain = 0, octets;
         for (size_t i = 0; i < measurement_count; i++) {
             if (measurements[i].operation != operation)
                 continue;
-            octets = peak(o->ours, &measurements[i].in) - base;
+            octets = peak(o->ours, o->ours_entry, &measurements[i].in);
             ours = octets > ours ? octets : ours;
-            octets = peak(o->plain, &measurements[i].in) - base;
+            octets = peak(o->plain, o->plain_entry, &measurements[i].in);
             plain = octets > plain ? octets : plain;
         }
         printf("%s|%s|%zu|%zu|%zu\n", o->name, o->function, ours, plain, o->limit);

@@ -109,7 +109,7 @@ END {
         growth_row(j)
 
     print "\n## Stack\n"
-    print "The largest over the inputs above, in octets.\n"
+    print "The largest over the inputs above, in octets from the operation's own entry. Its return address counts; what its caller holds, arguments too, does not. A step is measured where `step` is entered (plain's is inside of `hear`), which the function named here calls; the other operations are inside of the functions named here.\n"
     print "| operation | function | ours | plain | ours / plain | limit |"
     print "|---|---|---|---|---|---|"
     for (k = 1; k <= stacks; k++)
@@ -143,7 +143,7 @@ END {
         goal("stack under " grouped(limit[k]) " octets, " stack_name[k], met, \
             sprintf("%s octets, %s %s", grouped(stack_ours[k]), grouped(met ? limit[k] - stack_ours[k] : stack_ours[k] - limit[k]), \
                 met ? "left" : "above"))
-        if (!met && limit[k] >= 1024)
+        if (!met && stack_name[k] ~ /^station step/)
             failed = 1
     }
     exit failed

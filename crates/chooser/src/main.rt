@@ -1,12 +1,19 @@
-// The chooser: a program by which the comparison puts own tables, wishes, choice and verdict to the test. Standard input is a row of
-// requests: a header of six octets (operation, length of the own table, length of the far octets, place of the far standard field, and
-// in two octets, lowest first, length of the wishes), then the own table, the wishes and the far octets. Each gets six octets: document
-// 01's number, the number of the wish, and in two octets each the place and the length of its field.
+// The chooser: a program by which the comparison puts to the test what the probe does not reach by itself: own tables, wishes, choice and
+// verdict, and NS as a part of a message. Standard input is a row of requests: a header of six octets (operation, length of the own
+// table, length of the far octets, place of the far standard field, and in two octets, lowest first, length of the wishes), then the own
+// table, the wishes and the far octets. Each gets eight octets: document 01's number, the number of the wish, in two octets each the
+// place and the length of its field, and the length of the NS asked for; then that NS.
+//
+// NS is that of the far octets as a message, by what the message reader answers (operation 5) or by an answer that the request makes up
+// (operation 6): the place in the header is its number, and the own table has where NS lies, place and length in eight octets each.
 use choice::Choice;
 use choice::Tables;
 use choice::Verdict;
 use libc::STDIN_FILENO;
 use libc::STDOUT_FILENO;
+use message::Message;
+use message::MessageRead;
+use message::Span;
 
 // The most octets of the own table and of the far octets.
 const RUN_LIMIT: usize = 255;
@@ -14,7 +21,13 @@ const RUN_LIMIT: usize = 255;
 // The octets of sixteen wishes, each as long as its length can say.
 const WISHES_LIMIT: usize = 4112;
 
-// What a request is answered with.
+// The numbers that the message reader has to be lent.
+const LIST_ROOM: usize = 448;
+
+// The octets of a number in an answer that is made up.
+const NUMBER_SIZE: usize = 8;
+
+// What a request is answered with, but for NS.
 struct Answer {
     no: u8,
     number: usize,
@@ -36,6 +49,30 @@ fn first_mut(octets: &mut [u8], count: usize) -> &mut [u8] {
         return &mut octets[0..count];
     }
     octets
+}
+
+// The octets behind the first ones, none where there are no more.
+fn behind(octets: &[u8], count: usize) -> &[u8] {
+    if count < octets.len() {
+        return &octets[count..octets.len()];
+    }
+    &octets[0..0]
+}
+
+// The octet at a place, 0 where there is none.
+fn octet(octets: &[u8], at: usize) -> u8 {
+    if at < octets.len() { octets[at] } else { 0 }
+}
+
+// The number that octets make, lowest first.
+fn number_in(octets: &[u8]) -> u64 {
+    let mut value: u64 = 0;
+    let mut left = octets.len();
+    while 0 < left {
+        left -= 1;
+        value = value << 8 | octet(octets, left) as u64;
+    }
+    value
 }
 
 fn number_only(no: u8) -> Answer {
@@ -76,13 +113,64 @@ fn answer_of_verdict(verdict: Verdict) -> Answer {
     }
 }
 
-// The four operations; any other gets 255.
-fn answer_to(operation: u8, own: &[u8], wishes: &[u8], far: &[u8], place: usize) -> Answer {
+// The message reader's answer, without the list.
+fn reading(message: &[u8]) -> MessageRead {
+    let mut list = [0u32; LIST_ROOM];
+    message::read_message(message, &mut list)
+}
+
+// The answer with this number; a message that was read has its NS where the octets say.
+fn made_up(no: u8, span: &[u8]) -> MessageRead {
+    let at = number_in(first(span, NUMBER_SIZE)) as usize;
+    let length = number_in(behind(span, NUMBER_SIZE)) as usize;
+    match no {
+        1 => MessageRead::SmallList,
+        2 => MessageRead::BadSize,
+        3 => MessageRead::UnknownType,
+        4 => MessageRead::Malformed,
+        _ => MessageRead::Read(Message {
+            kind: 1,
+            revision: 0,
+            count: 0,
+            ns: Span { at, length },
+        }),
+    }
+}
+
+// The answer whose NS is asked for. The other operations ask for none: they get a refusal's.
+fn answer_read(operation: u8, own: &[u8], far: &[u8], place: u8) -> MessageRead {
+    match operation {
+        5 => reading(far),
+        6 => made_up(place, own),
+        _ => MessageRead::Malformed,
+    }
+}
+
+fn answer_of_reading(read: MessageRead) -> Answer {
+    match read {
+        MessageRead::Read(_) => number_only(0),
+        MessageRead::SmallList => number_only(1),
+        MessageRead::BadSize => number_only(2),
+        MessageRead::UnknownType => number_only(3),
+        MessageRead::Malformed => number_only(4),
+    }
+}
+
+// The operations; any other gets 255.
+fn answer_to(
+    operation: u8,
+    own: &[u8],
+    wishes: &[u8],
+    far: &[u8],
+    place: usize,
+    read: MessageRead,
+) -> Answer {
     match operation {
         1 => answer_of_tables(choice::check_tables(own, wishes)),
         2 => answer_of_choice(choice::first_ready(wishes)),
         3 => answer_of_choice(choice::first_common(own, wishes, far, place)),
         4 => answer_of_verdict(choice::judge_mode(wishes, far, place)),
+        5 | 6 => answer_of_reading(read),
         _ => number_only(255),
     }
 }
@@ -98,6 +186,28 @@ fn joined(lower: u8, upper: u8) -> usize {
 
 fn low(number: usize) -> u8 {
     (number % 256) as u8
+}
+
+// Writes a reply. False where the output takes no more.
+fn write_reply(reply: Answer, ns: &[u8]) -> bool {
+    let octets = [
+        reply.no,
+        low(reply.number),
+        low(reply.at),
+        low(reply.at / 256),
+        low(reply.length),
+        low(reply.length / 256),
+        low(ns.len()),
+        low(ns.len() / 256),
+    ];
+    io::write_all(STDOUT_FILENO, &octets) && io::write_all(STDOUT_FILENO, ns)
+}
+
+// Answers a request whose parts were read. False where the output takes no more.
+fn serve(operation: u8, own: &[u8], wishes: &[u8], far: &[u8], place: u8) -> bool {
+    let read = answer_read(operation, own, far, place);
+    let reply = answer_to(operation, own, wishes, far, wide(place), read);
+    write_reply(reply, message::ns_part(far, read))
 }
 
 // Reads a request and writes its reply. False where the input ends before the request does, the wishes are above their limit, or the
@@ -122,22 +232,13 @@ fn serve_one() -> bool {
     if io::read_full(STDIN_FILENO, first_mut(&mut far, far_length)) < far_length {
         return false;
     }
-    let reply = answer_to(
+    serve(
         head[0],
         first(&own, own_length),
         first(&wishes, wishes_length),
         first(&far, far_length),
-        wide(head[3]),
-    );
-    let octets = [
-        reply.no,
-        low(reply.number),
-        low(reply.at),
-        low(reply.at / 256),
-        low(reply.length),
-        low(reply.length / 256),
-    ];
-    io::write_all(STDOUT_FILENO, &octets)
+        head[3],
+    )
 }
 
 // Serves to the end of the input. A proved loop has to end, so the turns are counted down from a number that no input uses up.

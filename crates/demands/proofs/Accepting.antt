@@ -101,7 +101,7 @@ judged-few p g {h} s j =
 
 -- so is an MS that a step judges
 pub judged : (p : Phase) (g : Given) {h : Heard} → Passes p g h → actOn p g h ≡ Judge → Judged g (steps p g)
-judged p g {h} s j = rw (follows p g s ∙ rw j) (mode-judged g (judged-few p g s j))
+judged p g {h} s j = let e : steps p g ≡ doing Judge p g = follows p g s ∙ rw j in rw e (mode-judged g (judged-few p g s j))
 
 -- one with a parameter that is not named gets NAK(3)
 pub unnamed-nak-3 : (p : Phase) (g : Given) {h : Heard} → Passes p g h → actOn p g h ≡ Judge → (x : ℕ) → isIn x (standardHeard g) ≡ true → namedCode x ≡ false

@@ -9,8 +9,6 @@ mod single;
 mod verdicts;
 mod wishes;
 
-pub use requests::chooser;
-
 use crate::bench::{Asked, Layer};
 
 pub fn layer() -> Layer {

@@ -8,6 +8,7 @@ mod bench;
 mod bench_positions;
 mod choice;
 mod choice_checks;
+mod chooser;
 #[cfg(feature = "exported")]
 mod exported;
 mod frame;
@@ -16,6 +17,7 @@ mod listing;
 mod listing_checks;
 mod message;
 mod message_checks;
+mod part_checks;
 mod phases;
 mod program;
 mod random;
@@ -39,12 +41,13 @@ pub fn compare(probe: &Path, chooser: &Path, vectors: &Path) -> bool {
         message_checks::layer(),
         striking_checks::layer(),
         choice_checks::layer(),
+        part_checks::layer(),
         station_checks::layer(),
         bench_positions::layer(),
     ];
     let programs = Programs {
         probe: wire_checks::probe(probe.to_path_buf()),
-        chooser: choice_checks::chooser(chooser.to_path_buf()),
+        chooser: chooser::program(chooser.to_path_buf()),
     };
     Bench::new(programs).run(layers)
 }

@@ -155,6 +155,12 @@ pub fn minimal_form(octets: &[u8]) -> Option<Vec<u8>> {
     Some(message.octets())
 }
 
+/// The NS of a message as it came, nothing where it has none; or the refusal.
+pub fn non_standard(octets: &[u8]) -> Result<Vec<u8>, u8> {
+    let message = Message::of_octets(octets)?;
+    Ok(message.non_standard)
+}
+
 /// The number with which the reader refuses the octets, if it does.
 pub fn refusal(octets: &[u8]) -> Option<u8> {
     Message::of_octets(octets).err()

@@ -45,9 +45,9 @@ const CHECKED: [(&str, &str, u8); 24] = [
 
 /// Wishes and the reply without a far list.
 const FIRST_READY: [(&str, &str); 3] = [
-    ("", "0B 00 0000 0000"),
-    ("00 04 80 81 02 D0", "0B 00 0000 0000"),
-    ("00 04 80 81 02 D0 01 03 80 A0 C1", "00 02 0800 0300"),
+    ("", "0B 00 0000 0000 0000"),
+    ("00 04 80 81 02 D0", "0B 00 0000 0000 0000"),
+    ("00 04 80 81 02 D0 01 03 80 A0 C1", "00 02 0800 0300 0000"),
 ];
 
 /// Wishes, far list, place of its S field, reply.
@@ -56,28 +56,38 @@ const CHOSEN: [(&str, &str, usize, &str); 6] = [
         "01 04 80 81 02 D0",
         "22 81 80 80 A1 02 D0 C0",
         3,
-        "00 01 0200 0400",
+        "00 01 0200 0400 0000",
     ),
     (
         "01 04 80 81 02 D0",
         "32 91 80 80 21 84 02 D0 C0 41 42 C4",
         3,
-        "00 01 0200 0400",
+        "00 01 0200 0400 0000",
     ),
     (
         "01 03 80 A0 C1 01 04 80 81 02 D0",
         "22 80 81 C1 80 A1 02 D0 C0",
         4,
-        "00 02 0700 0400",
+        "00 02 0700 0400 0000",
     ),
     (
         "00 04 80 81 02 D0 01 03 80 A0 C1",
         "22 80 80 80 A1 02 D0 C0",
         3,
-        "0B 00 0000 0000",
+        "0B 00 0000 0000 0000",
     ),
-    ("01 03 80 81 C1", "22 80 80 80 81 C1", 3, "0B 00 0000 0000"),
-    ("01 03 80 81 C2", "22 80 80 80 81 C1", 3, "0B 00 0000 0000"),
+    (
+        "01 03 80 81 C1",
+        "22 80 80 80 81 C1",
+        3,
+        "0B 00 0000 0000 0000",
+    ),
+    (
+        "01 03 80 81 C2",
+        "22 80 80 80 81 C1",
+        3,
+        "0B 00 0000 0000 0000",
+    ),
 ];
 
 /// Wishes, MS, place of its S field, number.
@@ -119,7 +129,7 @@ fn known_cases() -> Result<Vec<Case>, String> {
     let own = written_out(OWN);
     let mut cases = Vec::new();
     for (own, wishes, number) in CHECKED {
-        let reply = [number, 0, 0, 0, 0, 0];
+        let reply = [number, 0, 0, 0, 0, 0, 0, 0];
         cases.push(check(&written_out(own), &written_out(wishes)).known(&reply)?);
     }
     for (wishes, reply) in FIRST_READY {
@@ -131,7 +141,7 @@ fn known_cases() -> Result<Vec<Case>, String> {
     }
     for (wishes, selection, place, number) in JUDGED {
         let case = verdict(&own, &written_out(wishes), &far(selection, place));
-        cases.push(case.known(&[number, 0, 0, 0, 0, 0])?);
+        cases.push(case.known(&[number, 0, 0, 0, 0, 0, 0, 0])?);
     }
     Ok(cases)
 }

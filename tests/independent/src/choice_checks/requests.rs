@@ -2,14 +2,11 @@
 
 use crate::bench::{Case, Outcome};
 use crate::choice::{Choice, Verdict};
+use crate::chooser::{reply, wish_reply, Request};
 use crate::message;
 use crate::message_checks::layout::Layout;
-use crate::program::{Manner, Program};
 use crate::tables::{self, Tables};
-use crate::wire::{Row, Separated};
-use std::path::PathBuf;
 
-const REPLY_OCTETS: usize = 6;
 const NO_CHOICE: u8 = 11;
 
 struct Operation {
@@ -49,22 +46,6 @@ pub fn outcomes() -> Vec<Outcome> {
     };
     let operations = [CHECK, FIRST_READY, CHOICE, VERDICT];
     operations.into_iter().flat_map(of_operation).collect()
-}
-
-/// The chooser: requests stand in a row as they are, and all replies have the
-/// same length.
-pub fn chooser(file: PathBuf) -> Program {
-    let manner = Manner {
-        joined: |requests| requests.concat(),
-        separated,
-    };
-    Program::new("chooser", file, manner)
-}
-
-fn separated(output: &[u8]) -> Separated {
-    let replies = output.chunks_exact(REPLY_OCTETS);
-    let left_over = replies.remainder().len();
-    (replies.map(<[u8]>::to_vec).collect(), left_over)
 }
 
 /// A far message, or its S field alone, and where that field begins.
@@ -108,16 +89,19 @@ impl Operation {
     }
 
     fn request(&self, own: &[u8], wishes: &[u8], far: &Far) -> Vec<u8> {
-        let row = Row::new().u8(self.number).u8(own.len() as u8);
-        let row = row.u8(far.octets.len() as u8).u8(far.place as u8);
-        let row = row.u16(wishes.len() as u16);
-        row.octets(own).octets(wishes).octets(&far.octets).done()
+        let request = Request {
+            operation: self.number,
+            own,
+            wishes,
+            far: &far.octets,
+            place: far.place as u8,
+        };
+        request.octets()
     }
 
     /// The case of a request that is answered with a number alone.
     fn case(&self, request: Vec<u8>, number: u8) -> Case {
-        let reply = Row::new().u8(number).octets(&[0; REPLY_OCTETS - 1]).done();
-        Case::new(request, reply, self.outcome(number))
+        Case::new(request, reply(number, &[]), self.outcome(number))
     }
 
     /// The case of a request that is answered with a wish, or without one.
@@ -125,9 +109,8 @@ impl Operation {
         let Some(Choice { number, wish }) = choice else {
             return self.case(request, NO_CHOICE);
         };
-        let row = Row::new().u8(0).u8(number as u8);
-        let row = row.u16(wish.place as u16).u16(wish.length as u16);
-        Case::new(request, row.done(), self.outcome(0))
+        let reply = wish_reply(number, wish.place, wish.length);
+        Case::new(request, reply, self.outcome(0))
     }
 }
 
