@@ -23,7 +23,8 @@ use Rattle.message.specs.declared.Parts.{Parts}
 use Rattle.message.proofs.Checked.{parted-accepted, kind-told, standard-told, tail-told, some-octet, few-octets, more-octets, tail-within}
 use Rattle.message.proofs.Reading.{no-room, room-enough, codes-fields, codes-none}
 use Rattle.message.proofs.Room.{codes-in, codes-fit, laid-behind}
-use Rattle.chip.specs.Answers.{messageAnswer, listOctets, roomOf, ReadsMessage}
+use Rattle.chip.specs.Answers.{messageAnswer, roomOf, ReadsMessage}
+use Rattle.chip.specs.Inner.{listOctets}
 use Rattle.chip.specs.declared.MessageAnswer.{MessageAnswer}
 use Rattle.chip.specs.declared.Place.{Place}
 use Rattle.chip.proofs.Fours.{length-fours, fours-append}

@@ -14,7 +14,8 @@ use Rattle.tree.specs.Fields.{fours}
 use Rattle.message.specs.Reader.{listRoom, messageCodes, Reading, refused, accepted, readMessage, readTold, readReply, readLeaves, Reads}
 use Rattle.message.specs.declared.MessageRead.{MessageRead}
 use Rattle.message.proofs.Reading.{room-enough}
-use Rattle.chip.specs.Answers.{frameAnswer, ReadsFrame, WritesFrame, messageAnswer, listOctets, octetsLeft, ReadsMessage}
+use Rattle.chip.specs.Answers.{frameAnswer, ReadsFrame, WritesFrame, messageAnswer, octetsLeft, ReadsMessage}
+use Rattle.chip.specs.Inner.{listOctets}
 use Rattle.chip.specs.declared.FrameAnswer.{FrameAnswer}
 use Rattle.chip.specs.declared.MessageAnswer.{MessageAnswer}
 use Rattle.chip.proofs.Fours.{length-fours}

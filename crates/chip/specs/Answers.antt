@@ -1,5 +1,5 @@
--- What the three exported functions answer and leave: the same as the operations that they pass on, as plain numbers, and each number of
--- the message reader's list as four octets, lowest first (document 01).
+-- To be believed: what the three exported functions answer and leave: the same as the operations that they pass on, as plain
+-- numbers, and each number of the message reader's list as four octets, lowest first (document 01).
 -- Assumes nothing.
 use Prim.Native.Nat.{ℕ, _/_}
 use mathlib.Core.List.{List}
@@ -39,10 +39,6 @@ messageAnswer x =
       «ns_at» = x .nsAt;
       «ns_length» = x .nsLength;
     }
-
--- the smallest list that is taken, in octets: four for each of 448 numbers
-abbrev pub listOctets : ℕ
-listOctets = 1792
 
 -- how many numbers a list of octets has room for
 abbrev pub roomOf : List ℕ → ℕ

@@ -103,7 +103,7 @@ module _ (c : Call) where
 
     -- so it was accepted: it stands in the store, and ACK(1) in the output where it was asked for
     accepted : IsField (standardHeard (given c)) (storedThen c)
-      × (((firstSent c ≡ 0x24 ∷ []) × (c .answer .first ≡ 1) × (farSays 4 (given c) ≡ true)) ⊎ ((firstSent c ≡ []) × (c .answer .first ≡ 0) × (farSays 4 (given c) ≡ false)))
+        × (((firstSent c ≡ 0x24 ∷ []) × (c .answer .first ≡ 1) × (farSays 4 (given c) ≡ true)) ⊎ ((firstSent c ≡ []) × (c .answer .first ≡ 0) × (farSays 4 (given c) ≡ false)))
     accepted = go judged
       where
         sent : {first stored : List ℕ} {next : Phase} → o ≡ sends first [] stored next → (firstSent c ≡ first) × (c .answer .first ≡ length first) × (storedThen c ≡ stored)
@@ -136,8 +136,8 @@ module _ (c : Call) where
             let y = proposed-first p g x octets (sym (shown .number) ∙ t) in (
               y .0,
               ⊎-elim
-              (λ a. inl (shown .first ∙ a .0, shown .secondLength ∙ ap length (a .1)))
-              (λ a. inr (subst (IsCl g) (sym (shown .first)) (a .0), shown .second ∙ a .1)) (y .1),
+                  (λ a. inl (shown .first ∙ a .0, shown .secondLength ∙ ap length (a .1)))
+                  (λ a. inr (subst (IsCl g) (sym (shown .first)) (a .0), shown .second ∙ a .1)) (y .1),
               shown .next ∙ y .2,
             );
         eleven-none = λ x. let q = none-suits p g x in (λ t. q .0 (sym (shown .number) ∙ t), λ n. shown .number ∙ q .1 n);

@@ -289,9 +289,10 @@ module _ (list : List ℕ) (g : Given) (w : Wish) (ms : List ℕ) (x : IsMs (hea
   eight-if-both =
       let outer = both-hold (not (bothShort g)) (bothEight g) in
       let inner = both-hold (g .set .eight) (farSays 1 g) in
-      rw (eight-in w x)
-      (λ e. let o = outer .0 e in let i = inner .0 (o .1) in (i .0, i .1, not-true (bothShort g) .0 (o .0)),
-      λ h. outer .1 (not-true (bothShort g) .1 (h .2), inner .1 (h .0, h .1)))
+      rw (eight-in w x) (
+        λ e. let o = outer .0 e in let i = inner .0 (o .1) in (i .0, i .1, not-true (bothShort g) .0 (o .0)),
+        λ h. outer .1 (not-true (bothShort g) .1 (h .2), inner .1 (h .0, h .1)),
+      )
 
 -- with no far list it says neither
 pub neither-unheard : (g : Given) (w : Wish) (ms : List ℕ) → IsMs unheard g w ms

@@ -157,7 +157,7 @@ module _ (kind : ℕ) (offer : Offer) (own : List ℕ) (lo : 0 < kind) (hi : kin
   sent-written =
       let j = meaning-join (offered (offer .eight) (offer .short) (offer .ack)) codes (offer-means (offer .eight) (offer .short) (offer .ack)) own-means in
       let bare : isIn (codeOf 1 0 0 7) all ≡ false =
-          in-neither (codeOf 1 0 0 7) (offered (offer .eight) (offer .short) (offer .ack)) codes (offer-bare (offer .eight) (offer .short) (offer .ack)) (standard-high (codeOf 1 0 0 7) own (omega arith)) in
+      in-neither (codeOf 1 0 0 7) (offered (offer .eight) (offer .short) (offer .ack)) codes (offer-bare (offer .eight) (offer .short) (offer .ack)) (standard-high (codeOf 1 0 0 7) own (omega arith)) in
       writable-sent kind 2 all [] 64 (sentField kind offer codes)
       (record {
         space = omega arith;

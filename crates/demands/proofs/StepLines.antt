@@ -157,5 +157,5 @@ module _ (p : Phase) (g : Given) where
     pub refusal-keeps-store : (toldNo (r .told) ≡ 0 → ⊥) → (toldNo (r .told) ≡ 11 → ⊥) → store₁ ≡ store₀
     refusal-keeps-store n e =
         let idle : isActedOn (steps p g .told) ≡ false =
-            rw (ne-eqb (steps p g .told) 0 (λ t. n (number-told ∙ t)), ne-eqb (steps p g .told) 11 (λ t. e (number-told ∙ t))) in
+        rw (ne-eqb (steps p g .told) 0 (λ t. n (number-told ∙ t)), ne-eqb (steps p g .told) 11 (λ t. e (number-told ∙ t))) in
         d .store ∙ rw (refusal-stores-none idle) (put-nil store₀)

@@ -39,11 +39,10 @@ pub record Given : Type 0 where
 abbrev pub steps : Phase → Given → Outcome
 steps p g = stepOf p (g .set) (g .own) (g .run) (g .event) (g .field) (g .time) (g .outSize) (g .storeSize)
 
--- tables and field are octets, as whatever is lent as such is
+-- own table and wishes are octets, as whatever is lent as a run of them is
 pub record InOctets (g : Given) : Type 0 where
   pub own : AreOctets (g .own)
   pub run : AreOctets (g .run)
-  pub field : AreOctets (g .field)
 
 -- ---- the refusals before the table, in their order
 

@@ -1,4 +1,5 @@
--- To be believed: the frame check sequence (V.8 bis 7.2.7) by polynomial division modulo 2. A polynomial is the list of its coefficients, the highest first.
+-- To be believed: the frame check sequence (V.8 bis 7.2.7) by polynomial division modulo 2. A polynomial is the list of its
+-- coefficients, the highest first.
 -- Assumes nothing.
 use Prim.Native.Nat.{ℕ, zero, suc}
 use mathlib.Core.Bool.{Bool, true, false, not}

@@ -1,5 +1,5 @@
--- Inner: a standard field judged block by block where it lies, as the code does it: the positions that a block may have are the bits of a
--- number, position 1 the lowest. One law says that it is what is asked of a good field.
+-- Inner: a standard field judged block by block where it lies, as the code does it: the positions that a block may have are the
+-- bits of a number, position 1 the lowest. One law says that it is what is asked of a good field.
 -- Assumes nothing.
 use Prim.Native.Nat.{ℕ, _+_, _-_, _*_, _/_, _%_, _^_}
 use mathlib.Core.Bool.{Bool, true, not}

@@ -1,5 +1,5 @@
--- To be believed: what a message is found to be before anything is done with it: refusal 2, 3 or 4 of the message reader, or its type and where S
--- and what is behind S begin.
+-- To be believed: what a message is found to be before anything is done with it: refusal 2, 3 or 4 of the message reader, or its
+-- type and where S and what is behind S begin.
 -- Assumes nothing.
 use Prim.Native.Nat.{ℕ}
 use mathlib.Core.List.{List}

@@ -1,4 +1,5 @@
--- To be believed: the non-standard field (V.8 bis 8.5): one or more blocks, each a length of 2 to 63 and that many octets, filling the field.
+-- To be believed: the non-standard field (V.8 bis 8.5): one or more blocks, each a length of 2 to 63 and that many octets, filling
+-- the field.
 -- Assumes nothing.
 use Prim.Native.Nat.{ℕ, zero, suc, _+_, _/_}
 use mathlib.Core.Bool.{Bool, true, false}

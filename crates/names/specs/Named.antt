@@ -1,4 +1,5 @@
--- To be believed: which parameters are named (document 01, "Striking"), and which of those are standard ones: the row of a code in the tables.
+-- To be believed: which parameters are named (document 01, "Striking"), and which of those are standard ones: the row of a code in
+-- the tables.
 -- Assumes nothing.
 use Prim.Native.Nat.{ℕ, zero, suc, _-_, _%_}
 use mathlib.Core.Bool.{Bool, true, false}

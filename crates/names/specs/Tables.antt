@@ -1,5 +1,5 @@
--- To be believed: the tables of parameters as V.8 bis prints them, 5-1 to 5-3 and 6-1 to 6-10: one list for each printed octet, its rows from bit 1 up.
--- A parameter is named if it is printed and not reserved; a non-standard one is named too.
+-- To be believed: the tables of parameters as V.8 bis prints them, 5-1 to 5-3 and 6-1 to 6-10: one list for each printed octet, its
+-- rows from bit 1 up. A parameter is named if it is printed and not reserved; a non-standard one is named too.
 -- Assumes nothing.
 use Prim.Native.Nat.{ℕ}
 use mathlib.Core.List.{List, [], _∷_, _++_}

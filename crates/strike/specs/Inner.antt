@@ -1,5 +1,5 @@
--- Inner: a field rewritten block by block, as the code does it. A block's positions are sieved and written as a minimal block; a block whose
--- SPar is not kept is passed over whole. One law says that it is `kept`.
+-- Inner: a field rewritten block by block, as the code does it. A block's positions are sieved and written as a minimal block; a
+-- block whose SPar is not kept is passed over whole. One law says that it is `kept`.
 -- Assumes nothing.
 use Prim.Native.Nat.{ℕ, _+_, _*_}
 use mathlib.Core.List.{List, [], _∷_, _++_}

@@ -1,6 +1,6 @@
--- To be believed: one block of a parameter tree (V.8 bis 8.2.3): the parameters set in it, and where it ends. l is all octets of a message, and
--- a place is counted in octets from 0. A block has w parameters to an octet, and an octet that is at least m is its last: 7 and
--- 128 at level 1, where bit 8 ends it, 6 and 64 below, where bit 7 does. It also ends with the octets.
+-- To be believed: one block of a parameter tree (V.8 bis 8.2.3): the parameters set in it, and where it ends. l is all octets of a
+-- message, and a place is counted in octets from 0. A block has w parameters to an octet, and an octet that is at least m is its
+-- last: 7 and 128 at level 1, where bit 8 ends it, 6 and 64 below, where bit 7 does. It also ends with the octets.
 -- Assumes nothing.
 use Prim.Native.Nat.{ℕ, zero, suc, _+_, _-_, _/_, _%_}
 use mathlib.Core.Bool.{Bool}

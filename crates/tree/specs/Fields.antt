@@ -1,5 +1,5 @@
--- To be believed: the total functions over a field: its codes and its form in a message's octets, of which there are 64 at most; numbers as octets; and
--- one list in another.
+-- To be believed: the total functions over a field: its codes and its form in a message's octets, of which there are 64 at most;
+-- numbers as octets; and one list in another.
 -- Assumes nothing.
 use Prim.Native.Nat.{ℕ, _+_, _/_, _%_}
 use mathlib.Core.Bool.{Bool, true, false}

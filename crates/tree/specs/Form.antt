@@ -1,5 +1,5 @@
--- To be believed: whether a field is well-formed, and if not, which rule broke first and at which octet (document 01, "Messages"; V.8 bis 8.2.3).
--- The places are those of Codes.
+-- To be believed: whether a field is well-formed, and if not, which rule broke first and at which octet (document 01, "Messages";
+-- V.8 bis 8.2.3). The places are those of Codes.
 -- Assumes nothing.
 use Prim.Native.Nat.{ℕ, zero, suc, _+_, _-_, _/_}
 use mathlib.Core.Bool.{Bool, true, false}

@@ -1,5 +1,5 @@
--- To be believed: the octets that the writer makes of a field's codes (V.8 bis 8.2.2 and 8.2.3): as many in each block as reach to its last
--- parameter, and SPar(2) only where something in it is set.
+-- To be believed: the octets that the writer makes of a field's codes (V.8 bis 8.2.2 and 8.2.3): as many in each block as reach to
+-- its last parameter, and SPar(2) only where something in it is set.
 -- Assumes nothing.
 use Prim.Native.Nat.{ℕ, zero, suc, _+_, _-_, _*_, _/_, _%_, _^_}
 use mathlib.Core.List.{List, [], _∷_, _++_}
