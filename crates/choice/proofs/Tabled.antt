@@ -22,7 +22,7 @@ use Rattle.writer.specs.Minimal.{fieldMinimal}
 use Rattle.names.specs.Named.{namedCode, standardCode}
 use Rattle.names.proofs.Strictness.{keeps-named}
 use Rattle.good.specs.Good.{mostStandard, allStandard, goodField}
-use Rattle.choice.specs.Wishes.{Wish, mostWishes, wishesIn, wishesOf, standardCodes, wishCodes, goodWish, goodRecords, goodWishes}
+use Rattle.choice.specs.Wishes.{recordsOf, Wish, mostWishes, wishesIn, wishesOf, standardCodes, wishCodes, goodWish, goodRecords, goodWishes}
 use Rattle.choice.specs.Tables.{goodOwn, allInside, tablesNo}
 use Rattle.choice.proofs.Truths.{never, both-parts}
 
@@ -49,11 +49,6 @@ good-fields (suc k) (r ∷ (n ∷ l)) g w m =
     ⊎-elim (λ e. rw e (s .2)) (λ d. good-fields k (drop n l) (s .3) w d)
     (List·Memᴰ·cases-cons (rw (le-leb n (length l) (s .1)) at m))
 
--- the octets of wishes as records, packed: ready as 0 or 1, the length, and the field
-unfoldable pub packed : List Wish → List ℕ
-packed [] = []
-packed (w ∷ ws) = num (w .ready) ∷ (length (w .field) ∷ (w .field ++ packed ws))
-
 -- a flag of 0 or 1 is what its test tells
 flag-told : (r : ℕ) → r ≤ 1 → num (eqb r 1) ≡ r
 flag-told zero h = refl
@@ -61,8 +56,8 @@ flag-told (suc zero) h = refl
 flag-told (suc (suc r)) h = absurd (omega arith)
 
 -- good records fill their run: its octets are those of the wishes and no others, and each flag is 0 or 1
-pub good-fill : (k : ℕ) (l : List ℕ) → goodRecords k l ≡ true → packed (wishesIn k l) ≡ l
-unfolding wishesIn goodRecords packed
+pub good-fill : (k : ℕ) (l : List ℕ) → goodRecords k l ≡ true → recordsOf (wishesIn k l) ≡ l
+unfolding wishesIn goodRecords recordsOf
 good-fill zero [] g = refl
 good-fill zero (r ∷ l) g = never g
 good-fill (suc k) [] g = refl
@@ -71,19 +66,19 @@ good-fill (suc k) (r ∷ (n ∷ l)) g =
     let s = good-step k r n l g in
     rw (le-leb n (length l) (s .1), flag-told r (s .0), length-take-le n l (s .1), good-fill k (drop n l) (s .3), take-append-drop n l)
 
--- and wishes with good fields, packed, are good records and are read back, where there are not too many
-pub packed-good : (k : ℕ) (ws : List Wish) → length ws ≤ k → ((w : Wish) → List·Memᴰ w ws → goodWish (w .field) ≡ true)
-    → (goodRecords k (packed ws) ≡ true) × (wishesIn k (packed ws) ≡ ws)
-unfolding wishesIn goodRecords packed
-packed-good zero [] h g = (refl, refl)
-packed-good zero (w ∷ ws) h g = absurd (omega arith)
-packed-good (suc k) [] h g = (refl, refl)
-packed-good (suc k) (w ∷ ws) h g =
+-- and the records of wishes with good fields and are read back, where there are not too many
+pub records-good : (k : ℕ) (ws : List Wish) → length ws ≤ k → ((w : Wish) → List·Memᴰ w ws → goodWish (w .field) ≡ true)
+    → (goodRecords k (recordsOf ws) ≡ true) × (wishesIn k (recordsOf ws) ≡ ws)
+unfolding wishesIn goodRecords recordsOf
+records-good zero [] h g = (refl, refl)
+records-good zero (w ∷ ws) h g = absurd (omega arith)
+records-good (suc k) [] h g = (refl, refl)
+records-good (suc k) (w ∷ ws) h g =
     let f = w .field in
-    let r = packed-good k ws (omega arith) (λ v m. g v (List·Memᴰ·tail m)) in
-    let n : leb (length f) (length (f ++ packed ws)) ≡ true = le-leb (length f) (length (f ++ packed ws)) (omega (arith, length-append f (packed ws))) in
-    let s = take-append-seam f (packed ws) in
-    let d = drop-append-seam f (packed ws) in
+    let r = records-good k ws (omega arith) (λ v m. g v (List·Memᴰ·tail m)) in
+    let n : leb (length f) (length (f ++ recordsOf ws)) ≡ true = le-leb (length f) (length (f ++ recordsOf ws)) (omega (arith, length-append f (recordsOf ws))) in
+    let s = take-append-seam f (recordsOf ws) in
+    let d = drop-append-seam f (recordsOf ws) in
     (rw (low (w .ready), n, s, g w (List·Memᴰ·head refl), d) (r .0), rw (n, back (w .ready), s, d, r .1))
   where
     low : (b : Bool) → leb (num b) 1 ≡ true
@@ -109,7 +104,7 @@ few-wishes (suc k) (r ∷ (n ∷ l)) = go (leb n (length l)) (few-wishes k (drop
 -- ---- the codes of good fields
 
 -- each of standard codes is one
-standard-at : (x : ℕ) (l : List ℕ) → allStandard l ≡ true → isIn x l ≡ true → standardCode x ≡ true
+pub standard-at : (x : ℕ) (l : List ℕ) → allStandard l ≡ true → isIn x l ≡ true → standardCode x ≡ true
 unfolding allStandard isIn
 standard-at x [] a i = never i
 standard-at x (y ∷ l) a i =
@@ -134,7 +129,7 @@ wish-named run g w m x i =
 -- ---- the tables
 
 -- each of wishes that all lie inside does
-inside-each : (own : List ℕ) (ws : List Wish) → allInside own ws ≡ true → (w : Wish) → List·Memᴰ w ws → allIn (wishCodes w) (standardCodes own) ≡ true
+pub inside-each : (own : List ℕ) (ws : List Wish) → allInside own ws ≡ true → (w : Wish) → List·Memᴰ w ws → allIn (wishCodes w) (standardCodes own) ≡ true
 unfolding allInside
 inside-each own [] a w m = absurd (List·Memᴰ·not-nil m)
 inside-each own (v ∷ ws) a w m =
@@ -142,7 +137,7 @@ inside-each own (v ∷ ws) a w m =
     ⊎-elim (λ e. rw e (p .0)) (λ d. inside-each own ws (p .1) w d) (List·Memᴰ·cases-cons m)
 
 -- and if each does, all do
-inside-all : (own : List ℕ) (ws : List Wish) → ((w : Wish) → List·Memᴰ w ws → allIn (wishCodes w) (standardCodes own) ≡ true) → allInside own ws ≡ true
+pub inside-all : (own : List ℕ) (ws : List Wish) → ((w : Wish) → List·Memᴰ w ws → allIn (wishCodes w) (standardCodes own) ≡ true) → allInside own ws ≡ true
 unfolding allInside
 inside-all own [] h = refl
 inside-all own (v ∷ ws) h = rw (h v (List·Memᴰ·head refl)) (inside-all own ws (λ w m. h w (List·Memᴰ·tail m)))
@@ -153,7 +148,7 @@ pub record GoodTables (own run : List ℕ) : Type 0 where
   pub table : goodField own ≡ true
   pub wishes : goodWishes run ≡ true
   pub few : length (wishesOf run) ≤ mostWishes
-  pub fill : packed (wishesOf run) ≡ run
+  pub fill : recordsOf (wishesOf run) ≡ run
   pub field : (w : Wish) → List·Memᴰ w (wishesOf run) → goodField (w .field) ≡ true
   pub spar : (w : Wish) → List·Memᴰ w (wishesOf run) → hasSpar (wishCodes w) ≡ true
   pub inside : (w : Wish) → List·Memᴰ w (wishesOf run) → allIn (wishCodes w) (standardCodes own) ≡ true

@@ -3,9 +3,10 @@
 -- Assumes nothing.
 use Prim.Native.Nat.{ℕ, zero, suc}
 use mathlib.Core.Bool.{Bool, true, false}
-use mathlib.Core.List.{List, [], _∷_}
+use mathlib.Core.List.{List, [], _∷_, _++_}
 use lib.Dec.{leb, eqb}
 use lib.ListN.{length, take, drop}
+use Rattle.octets.specs.Bits.{num}
 use Rattle.octets.specs.Places.{pick}
 use Rattle.tree.specs.Fields.{codesIn, hasSpar}
 use Rattle.tree.specs.declared.Field.the-variants.{Standard}
@@ -29,6 +30,11 @@ wishesIn (suc k) (r ∷ (n ∷ rest)) =
 
 abbrev pub wishesOf : List ℕ → List Wish
 wishesOf run = wishesIn mostWishes run
+
+-- the octets of wishes, as they are packed into a run: ready as 0 or 1, the length, and the field
+unfoldable pub recordsOf : List Wish → List ℕ
+recordsOf [] = []
+recordsOf (w ∷ ws) = num (w .ready) ∷ (length (w .field) ∷ (w .field ++ recordsOf ws))
 
 -- the parameters of a standard field that begins a run of octets, and of a wish
 abbrev pub standardCodes : List ℕ → List ℕ

@@ -1,14 +1,18 @@
 -- Demand 2, proved.
 -- Assumes nothing.
+use mathlib.Core.Path.{refl, ap}
 use native.Mathlib.Omega.{arith}
 use Rattle.message.proofs.Accepted.{accepted-passed}
+use Rattle.message.proofs.Bench.{positions}
 use Rattle.writer.proofs.RoundTrip as again
 use Rattle.exact.proofs.Exact as exact
 use Rattle.strike.proofs.StrikingForm as struck
 use Rattle.strike.proofs.StrikingMeaning as striking
 use Rattle.choice.proofs.Chosen as chosen
 use Rattle.choice.proofs.Judged as judged
+use Rattle.table.specs.declared.State.{State}
 use Rattle.demands.specs.DemandTwo.{DemandTwo}
+use Rattle.demands.proofs.Held.{own-holds, wishes-hold, wishes-inside}
 use Rattle.demands.proofs.Following as following
 use Rattle.demands.proofs.FieldsSent.{sent-is-read}
 use Rattle.demands.proofs.Proposing as proposing
@@ -28,6 +32,7 @@ demand-two =
         λ e. let p = accepted-passed l room e in (p .some, p .few, p .kind, p .form),
         λ p. again.readable-accepted l room h (record { some = p .0; few = p .1; known-kind = p .2; form = p .3 }),
       );
+      positions-read = positions .listed .3;
       read-is-meaning = again.read-is-meaning;
       at-most-448 = again.at-most-448;
       writes-exactly = λ kind revision list ns room os. (again.sent-writable kind revision list ns room os, again.writable-sent kind revision list ns room os);
@@ -47,11 +52,15 @@ demand-two =
       );
       struck-named = striking.striking-filters;
       struck-ms = striking.standard-of-ms;
+      own-holds = own-holds;
+      wishes-hold = wishes-hold;
+      wishes-inside = wishes-inside;
       chosen-first = chosen.chosen-first;
       no-choice = chosen.no-choice;
       accepted-ready = λ mode ws. (judged.accepted mode ws, λ x. judged.accepts mode ws (x .0) (x .1));
       declined-unready = λ mode ws. (judged.not-ready mode ws, λ x. judged.not-readies mode ws (x .0) (x .1));
       declined-unfit = λ mode ws. (judged.no-fit mode ws, judged.no-fits mode ws);
+      begins = λ time state e. ap (λ (s : State). s .phase) e;
       reset = following.reset-first;
       refuses-1-output = following.refuses-1-output;
       refuses-1-store = following.refuses-1-store;
@@ -60,6 +69,7 @@ demand-two =
       refuses-4 = following.refuses-4;
       refuses-5 = following.refuses-5;
       refuses-6 = following.refuses-6;
+      initial-lasts = λ t g s h. record { sound = s; after = h; prompt = refl; awake = refl };
       refuses-10-mode = following.refuses-10-mode;
       refuses-9 = following.refuses-9;
       refuses-10 = λ p g h. following.refuses-10 p g;

@@ -11,10 +11,11 @@ use lib.Dec.{eqb, ltb}
 use lib.ListN.{length}
 use Rattle.octets.specs.Bits.{num}
 use Rattle.octets.specs.Places.{pick}
+use Rattle.good.specs.Good.{goodField}
 use Rattle.choice.specs.Wishes.{Wish, wishesOf, goodWishes, standardCodes}
 use Rattle.choice.specs.Choosing.{Far, unheard, heard, Choosing, chosen, refused, suits, firstSuiting, choice}
 use Rattle.choice.specs.Judging.{verdict}
-use Rattle.choice.specs.Tables.{goodOwn, allInside, tablesNo, tablesTold}
+use Rattle.choice.specs.Tables.{allInside, tablesNo, tablesTold}
 use Rattle.choice.specs.declared.Pick.{Pick}
 use Rattle.choice.specs.declared.Tables.{Tables}
 use Rattle.choice.specs.declared.Tables.the-variants as found
@@ -80,14 +81,17 @@ module _ (p : Phase) (g : Given) where
     by-tables t e = live-checked live ∙ tables-checked p (g .set) (g .own) (g .run) (g .event) (g .field) (g .time) (g .outSize) (g .storeSize) output store t e
 
     -- 2, 3 and 4: the tables
-    pub refuses-2 : tablesNo (g .own) (g .run) ≡ 2 → steps p g ≡ quiet 2 p
-    refuses-2 e = by-tables found.BadOwn (sym e)
+    pub refuses-2 : goodField (g .own) ≡ false → steps p g ≡ quiet 2 p
+    unfolding tablesNo
+    refuses-2 a = by-tables found.BadOwn (rw a)
 
-    pub refuses-3 : tablesNo (g .own) (g .run) ≡ 3 → steps p g ≡ quiet 3 p
-    refuses-3 e = by-tables found.BadWishes (sym e)
+    pub refuses-3 : goodField (g .own) ≡ true → goodWishes (g .run) ≡ false → steps p g ≡ quiet 3 p
+    unfolding tablesNo
+    refuses-3 a b = by-tables found.BadWishes (rw (a, b))
 
-    pub refuses-4 : tablesNo (g .own) (g .run) ≡ 4 → steps p g ≡ quiet 4 p
-    refuses-4 e = by-tables found.Outside (sym e)
+    pub refuses-4 : goodField (g .own) ≡ true → goodWishes (g .run) ≡ true → allInside (g .own) (wishesOf (g .run)) ≡ false → steps p g ≡ quiet 4 p
+    unfolding tablesNo
+    refuses-4 a b c = by-tables found.Outside (rw (a, b, c))
 
   module _ (s : Sound g) where
     by-time : steps p g ≡ timed p (g .set) (g .own) (g .run) (g .event) (g .field) (g .time)
@@ -133,12 +137,11 @@ by-test true f g = f refl
 by-test false f g = g refl
 
 -- tables are good, or refused with 2, 3 or 4
-told-cases : {A : Type 0} (own run : List ℕ) → (tablesNo own run ≡ 0 → A) → (tablesNo own run ≡ 2 → A) → (tablesNo own run ≡ 3 → A) → (tablesNo own run ≡ 4 → A) → A
+told-cases : {A : Type 0} (own run : List ℕ) → (tablesNo own run ≡ 0 → A) → (goodField own ≡ false → A) → (goodField own ≡ true → goodWishes run ≡ false → A)
+    → (goodField own ≡ true → goodWishes run ≡ true → allInside own (wishesOf run) ≡ false → A) → A
 unfolding tablesNo
 told-cases own run good own-bad wishes-bad outside =
-    by-test (goodOwn own)
-    (λ a. by-test (goodWishes run) (λ b. by-test (allInside own (wishesOf run)) (λ c. good (rw (a, b, c))) (λ c. outside (rw (a, b, c)))) (λ b. wishes-bad (rw (a, b))))
-    (λ a. own-bad (rw a))
+    by-test (goodField own) (λ a. by-test (goodWishes run) (λ b. by-test (allInside own (wishesOf run)) (λ c. good (rw (a, b, c))) (outside a b)) (wishes-bad a)) own-bad
 
 -- a choice is a wish, or 11
 pub data Settled : Choosing → Type 0 where
@@ -228,9 +231,9 @@ module _ (P : Outcome → Type 0) (p : Phase) (g : Given) where
       tables live output store =
           told-cases (g .own) (g .run)
           (λ e. clock (record { live = live; output = output; store = store; tables = e }))
-          (λ e. is (refuses-2 p g live output store e) (kept 2 refl))
-          (λ e. is (refuses-3 p g live output store e) (kept 3 refl))
-          (λ e. is (refuses-4 p g live output store e) (kept 4 refl))
+          (λ a. is (refuses-2 p g live output store a) (kept 2 refl))
+          (λ a b. is (refuses-3 p g live output store a b) (kept 3 refl))
+          (λ a b c. is (refuses-4 p g live output store a b c) (kept 4 refl))
 
   -- so of every outcome, if it holds of what leaves the phase, of 6, of 11 and of every success
   pub of-outcome : ((n : ℕ) → isKept n ≡ true → P (quiet n p)) → P (quiet 6 (Initial (g .time))) → ((stored : List ℕ) → P (stays 11 stored (g .time)))

@@ -1,3 +1,4 @@
+pub mod Held
 pub mod Following
 pub mod SentFields
 pub mod Proposing

@@ -3,7 +3,7 @@
 -- Assumes nothing.
 use Prim.Native.Nat.{ℕ, _*_, _<_, _≤_}
 use mathlib.Core.Bool.{Bool, true, false}
-use mathlib.Core.List.{List, [], List·Memᴰ}
+use mathlib.Core.List.{List, [], _∷_, List·Memᴰ}
 use mathlib.Core.Logic.{_⊎_, _↔_}
 use mathlib.Core.Path.{_≡_}
 use lib.ListN.{length, take}
@@ -24,21 +24,25 @@ use Rattle.writer.specs.Minimal.{messageMinimal}
 use Rattle.writer.specs.Writer.{sent, writeMessage, Writable}
 use Rattle.names.specs.Masks.{only}
 use Rattle.names.specs.Named.{namedCode}
+use Rattle.good.specs.Good.{goodField}
 use Rattle.strike.specs.Striking.{struckForm}
-use Rattle.choice.specs.Wishes.{Wish, wishesOf, standardCodes, wishCodes}
+use Rattle.choice.specs.Wishes.{Wish, wishesOf, standardCodes, wishCodes, goodWishes}
 use Rattle.choice.specs.Choosing.{Far, unheard, heard, chosen, refused, suits, choice, First}
 use Rattle.choice.specs.Judging.{verdict, Fitting}
-use Rattle.choice.specs.Tables.{tablesNo}
+use Rattle.choice.specs.Tables.{allInside}
 use Rattle.choice.specs.declared.Pick.{Pick}
 use Rattle.table.specs.declared.Phase.{Phase}
 use Rattle.table.specs.declared.Phase.the-variants.{Initial, Mode}
 use Rattle.table.specs.declared.Kind.the-variants.{AtProposed}
 use Rattle.table.specs.declared.Heard.{Heard}
 use Rattle.table.specs.declared.Act.the-variants.{NoRow, Judge, Agree}
+use Rattle.table.specs.declared.State.{State}
 use Rattle.table.specs.Phases.{kindOf, entryOf, wishOf, ackOf, isOver}
 use Rattle.station.specs.Sorting.{strange, sortOf}
 use Rattle.station.specs.Acting.{quiet}
 use Rattle.station.specs.Stepping.{isMode, isLate, isReset}
+use Rattle.station.specs.Contracts.{TellsBegun}
+use Rattle.demands.specs.Holding.{MayHold, MayWish}
 use Rattle.demands.specs.Returning.{Tells, FourCalls, ComesBack}
 use Rattle.demands.specs.Given.{Given, steps, InOctets, Sound, Due, Passes, actOn, doing, isKept, isActedOn, Lasts, actedOn, after}
 use Rattle.demands.specs.Sent.{IsMs, farSays, bothShort}
@@ -60,6 +64,9 @@ pub record DemandTwo : Type 0 where
   -- Messages and trees: the message reader accepts exactly 1 to 64 octets of a known type that are well-formed
   pub accepts-exactly : (l : List ℕ) (room : ℕ) → 448 ≤ room
       → (readMessage l room ≡ accepted) ↔ ((0 < length l) × (length l ≤ 64) × (known (typeOf l) ≡ true) × (messageForm l ≡ Fine))
+  -- positions count by sevens at level 1 and by sixes below: 22 81 80 80 A1 02 D0 C0 has 1.0.0.1, 2.1.0.0, 2.1.0.2, 2.1.0.11 and 2.6.0.0
+  pub positions-read : messageCodes (0x22 ∷ 0x81 ∷ 0x80 ∷ 0x80 ∷ 0xa1 ∷ 0x02 ∷ 0xd0 ∷ 0xc0 ∷ [])
+      ≡ codeOf 1 0 0 1 ∷ codeOf 2 1 0 0 ∷ codeOf 2 1 0 2 ∷ codeOf 2 1 0 11 ∷ codeOf 2 6 0 0 ∷ []
   -- what is read is a meaning: codes of possible shape, strictly ascending, each with its parents
   pub read-is-meaning : (l : List ℕ) → length l ≤ 64
       → (allShaped (messageCodes l) ≡ true) × (ascending (messageCodes l) ≡ true) × (allParented (messageCodes l) (messageCodes l) ≡ true)
@@ -98,6 +105,12 @@ pub record DemandTwo : Type 0 where
   -- an MS keeps all its standard codes
   pub struck-ms : (l : List ℕ) (room : ℕ) → readMessage l room ≡ accepted → typeOf l ≡ 1
       → fieldCodes (fieldBase 2) (struckForm l) (standardAt (struckForm l)) ≡ fieldCodes (fieldBase 2) l (standardAt l)
+  -- Own table and wishes: a field is good exactly if it holds what the rules allow (Holding.antt)
+  pub own-holds : (t : List ℕ) → (goodField t ≡ true) ↔ MayHold t
+  -- and so are wishes
+  pub wishes-hold : (run : List ℕ) → (goodWishes run ≡ true) ↔ MayWish run
+  -- all wishes lie in the own table exactly if the parameters of each do
+  pub wishes-inside : (own : List ℕ) (ws : List Wish) → (allInside own ws ≡ true) ↔ ((w : Wish) → List·Memᴰ w ws → allIn (wishCodes w) (standardCodes own) ≡ true)
   -- Choice and verdict: what is chosen is the first wish that suits: ready, and common where a far list was heard
   pub chosen-first : (own : List ℕ) (far : Far) (run : List ℕ) (p : Pick) → choice own far run ≡ chosen p → First own far run p
   -- there is no choice, 11, exactly if no wish suits
@@ -109,22 +122,27 @@ pub record DemandTwo : Type 0 where
   pub declined-unready : (mode : List ℕ) (ws : List Wish) → (verdict mode ws ≡ 2) ↔ (Fitting mode ws × ((f : Fitting mode ws) → f .wish .ready ≡ false))
   -- NAK(3) exactly if it lies in no wish
   pub declined-unfit : (mode : List ℕ) (ws : List Wish) → (verdict mode ws ≡ 3) ↔ (Fitting mode ws → ⊥)
-  -- The station, refusals first, in their order: a reset gives Initial from any state, with no check at all
+  -- The station begins in Initial
+  pub begins : (time : ℕ) (state : State) → TellsBegun time state → state .phase ≡ Initial time
+  -- Refusals first, in their order: a reset gives Initial from any state, with no check at all
   pub reset : (p : Phase) (g : Given) → isReset (g .event) ≡ true → steps p g ≡ quiet 0 (Initial (g .time))
   -- 1: an output under 128 octets
   pub refuses-1-output : (p : Phase) (g : Given) → isReset (g .event) ≡ false → g .outSize < 128 → steps p g ≡ quiet 1 p
   -- 1: a store under 64 octets
   pub refuses-1-store : (p : Phase) (g : Given) → isReset (g .event) ≡ false → 128 ≤ g .outSize → g .storeSize < 64 → steps p g ≡ quiet 1 p
   -- 2: a bad own table
-  pub refuses-2 : (p : Phase) (g : Given) → isReset (g .event) ≡ false → 128 ≤ g .outSize → 64 ≤ g .storeSize → tablesNo (g .own) (g .run) ≡ 2 → steps p g ≡ quiet 2 p
-  -- 3: bad wishes
-  pub refuses-3 : (p : Phase) (g : Given) → isReset (g .event) ≡ false → 128 ≤ g .outSize → 64 ≤ g .storeSize → tablesNo (g .own) (g .run) ≡ 3 → steps p g ≡ quiet 3 p
-  -- 4: a wish outside the own table
-  pub refuses-4 : (p : Phase) (g : Given) → isReset (g .event) ≡ false → 128 ≤ g .outSize → 64 ≤ g .storeSize → tablesNo (g .own) (g .run) ≡ 4 → steps p g ≡ quiet 4 p
+  pub refuses-2 : (p : Phase) (g : Given) → isReset (g .event) ≡ false → 128 ≤ g .outSize → 64 ≤ g .storeSize → goodField (g .own) ≡ false → steps p g ≡ quiet 2 p
+  -- 3: bad wishes, where the own table is good
+  pub refuses-3 : (p : Phase) (g : Given) → isReset (g .event) ≡ false → 128 ≤ g .outSize → 64 ≤ g .storeSize → goodField (g .own) ≡ true → goodWishes (g .run) ≡ false → steps p g ≡ quiet 3 p
+  -- 4: a wish outside the own table, where both are good
+  pub refuses-4 : (p : Phase) (g : Given) → isReset (g .event) ≡ false → 128 ≤ g .outSize → 64 ≤ g .storeSize → goodField (g .own) ≡ true → goodWishes (g .run) ≡ true
+      → allInside (g .own) (wishesOf (g .run)) ≡ false → steps p g ≡ quiet 4 p
   -- 5: a time below the phase's entry time
   pub refuses-5 : (p : Phase) (g : Given) → Sound g → g .time < entryOf p → steps p g ≡ quiet 5 p
   -- 6: timed out, and the phase is Initial then
   pub refuses-6 : (p : Phase) (g : Given) → Sound g → entryOf p ≤ g .time → isLate (kindOf p) (entryOf p) (g .time) ≡ true → steps p g ≡ quiet 6 (Initial (g .time))
+  -- which never comes in Initial
+  pub initial-lasts : (t : ℕ) (g : Given) → Sound g → t ≤ g .time → Due (Initial t) g
   -- 10: any event in Mode
   pub refuses-10-mode : (p : Phase) (g : Given) → Sound g → entryOf p ≤ g .time → isMode (kindOf p) ≡ true → steps p g ≡ quiet 10 p
   -- 9: a message of unknown type

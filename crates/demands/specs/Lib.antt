@@ -1,6 +1,7 @@
 pub mod Returning
 pub mod Stages
 pub mod Untouched
+pub mod Holding
 pub mod Given
 pub mod Sent
 pub mod Proposals
