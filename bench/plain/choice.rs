@@ -1,4 +1,4 @@
-//! Own table, wishes, choice and verdict (document 01).
+//! Own table, wishes, choice and verdict (RULES, Own table, wishes, choice).
 
 use crate::rewrite::good_field;
 use crate::tree::{end, low, skip_block, skip_par, LAST};

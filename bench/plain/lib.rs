@@ -1,5 +1,5 @@
 //! What the library is measured against: the same operations in plain Rust, written for speed and for a small chip. No allocation,
-//! every refusal of document 01 in its order, and `unsafe` at the border to C alone.
+//! every refusal of the rules in its order, and `unsafe` at the border to C alone.
 #![no_std]
 #![deny(unsafe_code)]
 

@@ -1,4 +1,4 @@
-//! The station's step (V.8 bis Table 7; document 01) for what is measured: a field heard in Lists-d or in Asked-d.
+//! The station's step (V.8 bis Table 7; RULES, The station) for what is measured: a field heard in Lists-d or in Asked-d.
 // Of an answer the lengths alone are compared.
 #![allow(dead_code)]
 

@@ -375,7 +375,7 @@ static void read_at_odd_places(void)
 
 /* A capability list as one modem sends it to another. */
 
-/* What the sender puts on the line: document 01's example. */
+/* What the sender puts on the line: the example of the rules. */
 static struct buffer send_list(uint32_t *bits)
 {
     struct buffer information = octets_of("22 81 80 80 A1 02 D0 C0");

@@ -1,5 +1,5 @@
 -- To be believed: what the three exported functions answer and leave: the same as the operations that they pass on, as plain
--- numbers, and each number of the message reader's list as four octets, lowest first (document 01).
+-- numbers, and each number of the message reader's list as four octets, lowest first (RULES, Scope 5).
 -- Assumes nothing.
 use Prim.Native.Nat.{ℕ, _/_}
 use mathlib.Core.List.{List}
@@ -14,7 +14,7 @@ use Rattle.message.specs.Reader as message
 use Rattle.chip.specs.declared.FrameAnswer.{FrameAnswer}
 use Rattle.chip.specs.declared.MessageAnswer.{MessageAnswer}
 
--- document 01's number and value, as the firmware gets them
+-- the rules' number and value, as the firmware gets them
 abbrev pub frameAnswer : reader.Reply → FrameAnswer
 frameAnswer x = record { refusal = x .no; count = x .count }
 
@@ -28,7 +28,7 @@ pub record WritesFrame (info : List ℕ) (opening closing : ℕ) (out₀ : List 
   pub reply : r ≡ frameAnswer (writer.writeReply (writer.writeFrame info opening closing (length out₀)))
   pub output : out₁ ≡ writer.writeLeaves (writer.writeFrame info opening closing (length out₀)) out₀
 
--- document 01's number and values, as the firmware gets them
+-- the rules' number and values, as the firmware gets them
 abbrev pub messageAnswer : message.Reply → MessageAnswer
 messageAnswer x =
     record {

@@ -1,4 +1,4 @@
-// What the chip's firmware calls from C (document 01: "it calls the frame reader, the frame writer and the message reader"): three
+// What the chip's firmware calls from C (RULES, Scope 5: the frame reader, the frame writer and the message reader): three
 // functions on numbers and slices, each with the promise of the operation that it passes on.
 ghost use mathlib.Core.Path.{_≡_};
 ghost use Prim.Native.Nat.{_-_, _<_, _≤_};
@@ -22,14 +22,14 @@ use tree::Field;
 // The octets of the smallest list that is taken: 448 numbers of four octets.
 const LIST_OCTETS: usize = 1792;
 
-// What a frame function answers: document 01's number, 0 for success, and the number of octets read or of bits written.
+// What a frame function answers: the rules' number, 0 for success, and the number of octets read or of bits written.
 #[repr(C)]
 pub struct FrameAnswer {
     pub refusal: u32,
     pub count: u32,
 }
 
-// What the message reader answers: document 01's number, 0 for success, and then the type, the revision, the number of codes, and
+// What the message reader answers: the rules' number, 0 for success, and then the type, the revision, the number of codes, and
 // where NS lies.
 #[repr(C)]
 pub struct MessageAnswer {

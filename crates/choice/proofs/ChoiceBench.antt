@@ -1,4 +1,4 @@
--- The bench positions of document 01 that speak of wishes, with the ways in which tables are bad: one list, computed from the definitions.
+-- The bench positions of the rules that speak of wishes, with the ways in which tables are bad: one list, computed from the definitions.
 -- Assumes nothing.
 use Prim.Native.Nat.{ℕ, zero, suc}
 use mathlib.Core.Path.{_≡_, refl}

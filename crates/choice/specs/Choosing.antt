@@ -1,4 +1,4 @@
--- To be believed: the choice (document 01, "Own table, wishes, choice"), which is the first ready wish that is common; with no far list
+-- To be believed: the choice (RULES, Own table, wishes, choice), which is the first ready wish that is common; with no far list
 -- the first ready wish.
 -- Assumes nothing.
 use Prim.Native.Nat.{ℕ, _+_, _≤_}
@@ -29,7 +29,7 @@ abbrev pub suits : List ℕ → Far → Wish → Bool
 suits own unheard w = w .ready
 suits own (heard far) w = both (w .ready) (common own far (wishCodes w))
 
--- what is chosen: a wish, by its number and where its field lies; or document 01's refusal
+-- what is chosen: a wish, by its number and where its field lies; or the rules' refusal
 pub data Choosing : Type 0 where
   chosen : Pick → Choosing
   refused : ℕ → Choosing

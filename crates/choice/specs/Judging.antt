@@ -1,4 +1,4 @@
--- To be believed: the verdict on a mode select that was received (document 01, "Own table, wishes, choice"). It fits a wish if it has an
+-- To be believed: the verdict on a mode select that was received (RULES, Own table, wishes, choice). It fits a wish if it has an
 -- SPar(1) and all its standard parameters lie there. It is accepted if it fits a ready wish; NAK(2) if it fits only wishes not ready; else
 -- NAK(3).
 -- Assumes nothing.

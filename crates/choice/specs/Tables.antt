@@ -1,4 +1,4 @@
--- To be believed: the own table and the wishes as they are lent for a step, document 01's refusals 2, 3 and 4.
+-- To be believed: the own table and the wishes as they are lent for a step, refusals 2, 3 and 4 of the rules.
 -- Assumes nothing.
 use Prim.Native.Nat.{ℕ}
 use mathlib.Core.Bool.{Bool, true, not}

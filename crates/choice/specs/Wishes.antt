@@ -1,4 +1,4 @@
--- To be believed: the wishes (document 01, "Own table, wishes, choice"), which are at most 16 records, packed and filling their run, of
+-- To be believed: the wishes (RULES, Own table, wishes, choice), which are at most 16 records, packed and filling their run, of
 -- ready (0 or 1), length, and a standard field with at least one SPar(1). An empty run is no wishes.
 -- Assumes nothing.
 use Prim.Native.Nat.{ℕ, zero, suc}

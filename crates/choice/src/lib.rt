@@ -1,4 +1,4 @@
-// Own table, wishes, choice and verdict (document 01, "Own table, wishes, choice"). The wishes are a run of records, walked from its
+// Own table, wishes, choice and verdict (RULES, Own table, wishes, choice). The wishes are a run of records, walked from its
 // front; nothing of it is held.
 ghost use mathlib.Core.Path.{_≡_};
 ghost use mathlib.Core.Bool.{true};

@@ -1,7 +1,7 @@
 // The chooser: a program by which the comparison puts to the test what the probe does not reach by itself: own tables, wishes, choice and
 // verdict, and NS as a part of a message. Standard input is a row of requests: a header of six octets (operation, length of the own
 // table, length of the far octets, place of the far standard field, and in two octets, lowest first, length of the wishes), then the own
-// table, the wishes and the far octets. Each gets eight octets: document 01's number, the number of the wish, in two octets each the
+// table, the wishes and the far octets. Each gets eight octets: the rules' number, the number of the wish, in two octets each the
 // place and the length of its field, and the length of the NS asked for; then that NS.
 //
 // NS is that of the far octets as a message, by what the message reader answers (operation 5) or by an answer that the request makes up

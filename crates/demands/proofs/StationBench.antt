@@ -1,4 +1,4 @@
--- The bench positions of document 01 that speak of the station: one list, computed from the definition of a step.
+-- The bench positions of the rules that speak of the station: one list, computed from the definition of a step.
 -- Assumes nothing.
 use Prim.Native.Nat.{ℕ}
 use mathlib.Core.Bool.{true}

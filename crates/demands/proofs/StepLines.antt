@@ -1,4 +1,4 @@
--- Single lines of document 01's station, each over steps: what is not looked at, reset, the time of a phase, what is spoilt, and that
+-- Single rules of the station (RULES, The station), each over steps: what is not looked at, reset, the time of a phase, what is spoilt, and that
 -- refusals send and write nothing.
 -- Assumes nothing.
 use Prim.Native.Nat.{ℕ, _+_, _-_, _<_, _≤_}

@@ -33,7 +33,7 @@ Tells os room kind revision list ns =
     (readMessage os room ≡ accepted) × (typeOf os ≡ kind) × (revisionOf os ≡ revision) × (messageCodes os ≡ list) × (nsOf os ≡ ns)
 
 -- Four calls, one after the other, each with its `ensures`. Each is lent a buffer of its own, ₀ before the call and ₁ behind it, and is
--- given what the call before it left. Both writers tell success, and the readers' buffers have the room that document 01 asks for
+-- given what the call before it left. Both writers tell success, and the readers' buffers have the room that the rules ask for
 pub record FourCalls (kind revision : ℕ) (list ns : List ℕ) (opening closing : ℕ) : Type 0 where
   -- the list and an NS of octets are written as a message
   pub octets : AreOctets ns

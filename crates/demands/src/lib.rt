@@ -1,4 +1,4 @@
-// The three demands as theorems over what the contracts of the other crates cite, document 01's P positions in one list, and one
+// The three demands as theorems over what the contracts of the other crates cite, the proved bench positions in one list, and one
 // operation that sends a list there and back: its contract says of the four operations that it calls that the list comes back.
 ghost use mathlib.Core.Path.{_≡_};
 ghost use mathlib.Core.List.{List};

@@ -1,4 +1,4 @@
-// The codes of a field (document 01, "Parameter codes"), stored in a list of numbers or of octets by loops over its blocks.
+// The codes of a field (RULES, Parameter codes), stored in a list of numbers or of octets by loops over its blocks.
 ghost use Prim.Native.Nat.{_+_, _*_, _/_, _^_, _≤_, _<_};
 ghost use Rattle.tree.specs.Block.{setBits, behind, numbers};
 ghost use Rattle.tree.specs.Codes.{subCodes, subsBehind, groupCodes, groupBehind, parCodes, parsBehind, fieldCodes};

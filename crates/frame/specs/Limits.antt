@@ -1,4 +1,4 @@
--- To be believed: the numbers of document 01, "Frames".
+-- To be believed: the numbers of RULES, Frames.
 -- Assumes nothing.
 use Prim.Native.Nat.{ℕ}
 

@@ -1,4 +1,4 @@
--- To be believed: what the frame reader answers, by document 01's numbers, and what it leaves in the output.
+-- To be believed: what the frame reader answers, by the rules' numbers, and what it leaves in the output.
 -- Assumes nothing.
 use Prim.Native.Nat.{ℕ, _-_, _*_, _/_, _%_}
 use mathlib.Core.Bool.{Bool, true, false, not, Bool·beq}
@@ -61,7 +61,7 @@ readFrame run count room =
     (refusedIf (ltb room informationRoom) 1
     (alone (framed (take count (bits run))))))
 
--- a reply: document 01's number, 0 for success, and the number of octets given
+-- a reply: the rules' number, 0 for success, and the number of octets given
 pub record Reply : Type 0 where
   pub no : ℕ
   pub count : ℕ

@@ -1,4 +1,4 @@
--- To be believed: what the frame writer answers, by document 01's numbers, and what it leaves in the output.
+-- To be believed: what the frame writer answers, by the rules' numbers, and what it leaves in the output.
 -- Assumes nothing.
 use Prim.Native.Nat.{ℕ}
 use mathlib.Core.Bool.{Bool, true, false}

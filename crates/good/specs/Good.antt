@@ -1,4 +1,4 @@
--- To be believed: a standard field that an own table or a wish may hold (document 01, "Own table, wishes, choice"): well-formed,
+-- To be believed: a standard field that an own table or a wish may hold (RULES, Own table, wishes, choice): well-formed,
 -- filling its octets, in minimal form, at most 61 octets, with named parameters only and no non-standard bit.
 -- Assumes nothing.
 use Prim.Native.Nat.{ℕ}

@@ -1,4 +1,4 @@
-// A standard field that an own table or a wish may hold (document 01, "Own table, wishes, choice"), judged where it lies. What is judged
+// A standard field that an own table or a wish may hold (RULES, Own table, wishes, choice), judged where it lies. What is judged
 // inside gives the place behind it, or 0 where it is not good: no place behind an octet is 0.
 ghost use mathlib.Core.Path.{_≡_};
 ghost use Prim.Native.Nat.{_+_, _%_, _^_, _≤_, _<_};

@@ -1,4 +1,4 @@
-// The listing program (document 01): it reads one information field from standard input and prints what the message reader tells of
+// The listing program (RULES, The listing program): it reads one information field from standard input and prints what the message reader tells of
 // it, in lines of a key and a value, or the number of the refusal alone. Nothing is struck.
 use libc::STDIN_FILENO;
 use libc::STDOUT_FILENO;

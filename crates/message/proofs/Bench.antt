@@ -1,4 +1,4 @@
--- The bench positions of document 01 that speak of reading a message, and its listing example: one list, computed from the definitions.
+-- The bench positions of the rules that speak of reading a message, and the listing example: one list, computed from the definitions.
 -- Assumes nothing.
 use Prim.Native.Nat.{ℕ}
 use mathlib.Core.Path.{_≡_, refl}

@@ -8,7 +8,7 @@ use Rattle.message.specs.Reader.{listRoom, standardAt, tailAt, Reading, 
 use Rattle.message.specs.declared.MessageCheck.{MessageCheck}
 use Rattle.message.specs.declared.MessageCheck.the-variants.{Parted, BadSize, UnknownType, Malformed}
 
--- document 01's number, 0 where the message is well-formed, and the values
+-- the rules' number, 0 where the message is well-formed, and the values
 pub record Finding : Type 0 where
   pub no : ℕ
   pub kind : ℕ

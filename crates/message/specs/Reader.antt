@@ -1,4 +1,4 @@
--- To be believed: what the message reader answers, by document 01's numbers, and what it leaves in the list.
+-- To be believed: what the message reader answers, by the rules' numbers, and what it leaves in the list.
 -- Assumes nothing.
 use Prim.Native.Nat.{ℕ, _-_}
 use mathlib.Core.Bool.{Bool, true, false, not}
@@ -82,7 +82,7 @@ readMessage l room =
     (refusedIf (not (known (typeOf l))) 3
     (judged (messageForm l)))))
 
--- a reply: document 01's number, 0 for success, and the values
+-- a reply: the rules' number, 0 for success, and the values
 pub record Reply : Type 0 where
   pub no : ℕ
   pub kind : ℕ

@@ -1,4 +1,4 @@
--- The positions that document 01 lists, computed from the definition: of each printed block those that are named, and so which of the
+-- The positions that the rules list, computed from the definition: of each printed block those that are named, and so which of the
 -- first 36 are reserved; and of all of them the non-standard ones.
 -- Assumes nothing.
 use Prim.Native.Nat.{ℕ, zero, suc, _+_, _*_}

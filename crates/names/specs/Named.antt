@@ -1,4 +1,4 @@
--- To be believed: which parameters are named (document 01, "Striking"), and which of those are standard ones: the row of a code in
+-- To be believed: which parameters are named (RULES, Striking), and which of those are standard ones: the row of a code in
 -- the tables.
 -- Assumes nothing.
 use Prim.Native.Nat.{ℕ, zero, suc, _-_, _%_}

@@ -192,7 +192,7 @@ fn put_stepped(reply: &mut [u8], stepped: Stepped) -> usize {
     wire::put_number(reply, stored_at, U16, stepped.stored as u64)
 }
 
-// Document 01's number.
+// The rules' number.
 fn number_of(told: Told) -> u64 {
     match told {
         Told::Done => 0,

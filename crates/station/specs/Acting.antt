@@ -1,4 +1,4 @@
--- To be believed: what each act of the table does (document 01, "The station"), that is what is told, sent and stored, and the next phase.
+-- To be believed: what each act of the table does (RULES, The station), that is what is told, sent and stored, and the next phase.
 -- Assumes nothing.
 use Prim.Native.Nat.{ℕ, zero, suc}
 use mathlib.Core.Bool.{Bool}
@@ -28,7 +28,7 @@ use Rattle.station.specs.declared.FarOffer.{FarOffer}
 use Rattle.station.specs.declared.Sends.{Sends}
 use Rattle.station.specs.declared.Sends.the-variants.{NoSignal, SendsMrE, SendsMrD, SendsCrE, SendsCrD}
 
--- what a step does: document 01's number that it tells, 0 for success, the signal and the fields it sends, what it stores, and the next
+-- what a step does: the rules' number that it tells, 0 for success, the signal and the fields it sends, what it stores, and the next
 -- phase
 pub record Outcome : Type 0 where
   pub told : ℕ

@@ -1,4 +1,4 @@
--- To be believed: what a station sends (document 01, "Own table, wishes, choice"), messages of revision 2, said by their codes and written
+-- To be believed: what a station sends (RULES, Own table, wishes, choice), messages of revision 2, said by their codes and written
 -- in minimal form.
 -- Assumes nothing.
 use Prim.Native.Nat.{ℕ, _+_}

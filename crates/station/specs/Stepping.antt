@@ -1,4 +1,4 @@
--- To be believed: one step of the station (document 01, "The station"), the refusals in their order, then the table.
+-- To be believed: one step of the station (RULES, The station), the refusals in their order, then the table.
 -- Assumes nothing.
 use Prim.Native.Nat.{ℕ, _-_}
 use mathlib.Core.Bool.{Bool, true, false, not}
@@ -27,7 +27,7 @@ use Rattle.station.specs.declared.Told.{Told}
 use Rattle.station.specs.declared.Told.the-variants.{Done, SmallBuffers, BadOwn, BadWishes, Outside, TimeBefore, TimedOut, UnknownType, NotInTable, NothingToPropose}
 use Rattle.station.specs.declared.Stepped.{Stepped}
 
--- document 01's number of what a step tells, 0 for success
+-- the rules' number of what a step tells, 0 for success
 abbrev pub toldNo : Told → ℕ
 toldNo Done = 0
 toldNo SmallBuffers = 1
@@ -103,7 +103,7 @@ unfoldable pub stepOf : Phase → Settings → List ℕ → List ℕ → Event �
 stepOf p set own run event m time outSize storeSize =
     pick (isReset event) (quiet 0 (Initial time)) (checked p set own run event m time outSize storeSize)
 
--- a reply: document 01's number, 0 for success, the signal, the lengths of the fields sent and of what was stored, and the next phase
+-- a reply: the rules' number, 0 for success, the signal, the lengths of the fields sent and of what was stored, and the next phase
 pub record Reply : Type 0 where
   pub no : ℕ
   pub signal : Sends

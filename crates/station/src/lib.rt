@@ -1,4 +1,4 @@
-// The station (document 01, "The station"): one step for each event, from what is heard to the agreed mode. What is sent is written
+// The station (RULES, The station): one step for each event, from what is heard to the agreed mode. What is sent is written
 // into the output, the far side's standard field into the store; the state is a value that the caller keeps.
 ghost use mathlib.Core.Path.{_≡_};
 ghost use mathlib.Core.Bool.{true};

@@ -1,4 +1,4 @@
--- The bench positions of document 01 that speak of striking, and others beside them: one list, computed from the definitions.
+-- The bench positions of the rules that speak of striking, and others beside them: one list, computed from the definitions.
 -- Assumes nothing.
 use Prim.Native.Nat.{ℕ}
 use mathlib.Core.List.{List, [], _∷_}

@@ -1,4 +1,4 @@
--- To be believed: a field rewritten (document 01, "Striking"): of its codes some are kept, and these are written in minimal form.
+-- To be believed: a field rewritten (RULES, Striking): of its codes some are kept, and these are written in minimal form.
 -- Assumes nothing.
 use Prim.Native.Nat.{ℕ}
 use mathlib.Core.List.{List, []}

@@ -1,5 +1,5 @@
--- To be believed: striking a message (document 01, "Striking"): every unnamed parameter and all below it are taken out, octet 1 and
--- NS stay, and the message is written in minimal form. What it answers, by document 01's numbers, and what it leaves in the output.
+-- To be believed: striking a message (RULES, Striking): every unnamed parameter and all below it are taken out, octet 1 and
+-- NS stay, and the message is written in minimal form. What it answers, by the rules' numbers, and what it leaves in the output.
 -- Assumes nothing.
 use Prim.Native.Nat.{ℕ}
 use mathlib.Core.List.{List, [], _++_}

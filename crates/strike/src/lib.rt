@@ -1,4 +1,4 @@
-// Striking (document 01, "Striking"): a field is rewritten block by block with what is kept of it, so that no list of numbers is
+// Striking (RULES, Striking): a field is rewritten block by block with what is kept of it, so that no list of numbers is
 // ever held; and a message is struck.
 ghost use mathlib.Core.Path.{_≡_};
 ghost use Prim.Native.Nat.{_+_, _-_, _*_, _/_, _%_, _^_, _≤_, _<_};

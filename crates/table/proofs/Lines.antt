@@ -1,4 +1,4 @@
--- The table read the other way (document 01, "The station"): for each thing heard, the phases that act on it and what they do.
+-- The table read the other way (RULES, The station): for each thing heard, the phases that act on it and what they do.
 -- Assumes nothing.
 use mathlib.Core.Path.{_≡_, refl}
 use mathlib.Core.Bool.{Bool, true, false, cond}

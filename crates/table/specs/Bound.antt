@@ -1,4 +1,4 @@
--- Inner: a transaction (document 01: "over by its fourth acted-on event, its first included"), from Initial, each event acted on, to Initial
+-- Inner: a transaction (RULES, The station 11: over by its fourth acted-on event, its first included), from Initial, each event acted on, to Initial
 -- or Mode.
 -- Assumes nothing.
 use mathlib.Core.Bool.{Bool, true, false}

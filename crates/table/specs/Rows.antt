@@ -1,4 +1,4 @@
--- To be believed: the station's table (document 01, "The station"; V.8 bis Table 7), one line for each phase.
+-- To be believed: the station's table (RULES, The station; V.8 bis Table 7), one line for each phase.
 -- Assumes nothing.
 use mathlib.Core.Bool.{Bool, true, false}
 use Rattle.table.specs.declared.Kind.{Kind}

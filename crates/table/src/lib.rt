@@ -1,4 +1,4 @@
-// The station's phases, what it can hear, how it is set, and its table (document 01, "The station"): from a phase and what was heard to
+// The station's phases, what it can hear, how it is set, and its table (RULES, The station): from a phase and what was heard to
 // what is done.
 ghost use mathlib.Core.Path.{_≡_};
 ghost use Rattle.table.specs.Rows.{onMrE, onMrD, onCrD, onCrE, initialAct, rowAct, toneAct, row};

@@ -1,4 +1,4 @@
--- Worked examples of document 01, computed from the definitions.
+-- Worked examples of the rules, computed from the definitions.
 -- Assumes nothing.
 use mathlib.Core.Path.{_≡_, refl}
 use mathlib.Core.List.{List, [], _∷_}

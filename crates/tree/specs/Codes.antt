@@ -1,4 +1,4 @@
--- To be believed: the codes of a field (document 01, "Parameter codes"; V.8 bis 8.2.2), in ascending order, and the place behind
+-- To be believed: the codes of a field (RULES, Parameter codes; V.8 bis 8.2.2), in ascending order, and the place behind
 -- it. They are defined for any octets; whether these are well-formed is asked elsewhere (Form).
 -- Assumes nothing.
 use Prim.Native.Nat.{ℕ, zero, suc, _+_, _*_}

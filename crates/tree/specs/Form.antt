@@ -1,4 +1,4 @@
--- To be believed: whether a field is well-formed, and if not, which rule broke first and at which octet (document 01, "Messages";
+-- To be believed: whether a field is well-formed, and if not, which rule broke first and at which octet (RULES, Messages;
 -- V.8 bis 8.2.3). The places are those of Codes.
 -- Assumes nothing.
 use Prim.Native.Nat.{ℕ, zero, suc, _+_, _-_, _/_}

@@ -1,4 +1,4 @@
--- To be believed: a meaning (document 01, "Parameter codes"): a strictly ascending list of codes in which each code has its parents.
+-- To be believed: a meaning (RULES, Parameter codes): a strictly ascending list of codes in which each code has its parents.
 -- Assumes nothing.
 use Prim.Native.Nat.{ℕ, _-_, _/_, _%_}
 use mathlib.Core.Bool.{Bool, true, false}

@@ -1,4 +1,4 @@
--- To be believed: minimal form, in the words of document 01: no block has an octet without a set parameter at its end unless it is
+-- To be believed: minimal form (RULES): no block has an octet without a set parameter at its end unless it is
 -- the only one, and SPar(2) stands only if something in it is set. The places are those of a field's codes.
 -- Assumes nothing.
 use Prim.Native.Nat.{ℕ, zero, suc, _%_}

@@ -1,4 +1,4 @@
--- To be believed: what the message writer answers, by document 01's numbers, and what it leaves in the output.
+-- To be believed: what the message writer answers, by the rules' numbers, and what it leaves in the output.
 -- Assumes nothing.
 use Prim.Native.Nat.{ℕ, _≤_}
 use mathlib.Core.Bool.{Bool, true, false, not}
@@ -91,7 +91,7 @@ pub record Writable (kind revision : ℕ) (list ns : List ℕ) (room : ℕ) (os 
   pub few : length os ≤ 64
   pub octets : messageOctets kind revision list ns ≡ os
 
--- a reply: document 01's number, 0 for success, and the number of octets
+-- a reply: the rules' number, 0 for success, and the number of octets
 pub record Reply : Type 0 where
   pub no : ℕ
   pub count : ℕ

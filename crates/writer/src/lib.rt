@@ -1,4 +1,4 @@
-// The message writer (V.8 bis clause 8; document 01): a message of a type, a revision, a list of codes and NS, always in minimal form.
+// The message writer (V.8 bis clause 8; RULES): a message of a type, a revision, a list of codes and NS, always in minimal form.
 ghost use mathlib.Core.Path.{_≡_};
 ghost use mathlib.Core.Bool.{true};
 ghost use mathlib.Core.List.{[], _∷_, _++_};

@@ -1,4 +1,4 @@
-//! The bench positions of the product's paper, each put to the probe with the
+//! The bench positions of the rules, each put to the probe with the
 //! answer that stands there: one family, every position in it.
 
 mod messages;
@@ -6,7 +6,7 @@ mod station;
 
 use crate::bench::{Asked, Bench, Case, Check, Layer};
 
-/// A position, in the paper's words, and what is put to the probe for it.
+/// A position, in words, and what is put to the probe for it.
 struct Position {
     words: &'static str,
     cases: fn() -> Result<Vec<Case>, String>,

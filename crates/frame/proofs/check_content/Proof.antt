@@ -1,4 +1,4 @@
--- `frame::check_content` meets its contract: each way out is one of document 01's numbers 3 to 6, or the information. Assumes nothing.
+-- `frame::check_content` meets its contract: each way out is one of refusals 3 to 6 (RULES, Frames 9), or the information. Assumes nothing.
 use Prim.Native.Nat.{_-_, _/_}
 use mathlib.Core.Path.{_≡_, refl, sym, _∙_}
 use native.Mathlib.Omega.{arith}
