@@ -21,7 +21,7 @@ use Rattle.table.proofs.Lines.{ms-judged}
 use Rattle.station.specs.Acting.{Outcome, quiet, sends}
 use Rattle.station.specs.Stepping.{isMode, Reply, Did}
 use Rattle.station.specs.declared.Sends.the-variants.{NoSignal}
-use Rattle.demands.specs.Given.{Given, steps, InOctets, Sound, Due, Hears, HearsSpoilt, standardHeard, isKept}
+use Rattle.demands.specs.Given.{Given, steps, InOctets, Sound, Due, HearsType, HearsSpoilt, standardHeard, isKept}
 use Rattle.demands.specs.Sent.{IsCl, IsField, farSays}
 use Rattle.demands.specs.Proposals.{Proposal, proposedBy, Judged, asked, unasked, unready, unfit, Proposes}
 use Rattle.demands.specs.Calls.{Call, phaseOf, given, told, firstSent, secondSent, storedThen, nextOf, Shows, OverBuffers}
@@ -60,7 +60,7 @@ eleven-initial p g =
     (λ n k e. never (sym (ap isKept e) ∙ k)) (λ e. refl) (λ stored e. refl) (λ o s e. absurd (omega (arith, s .told, e)))
 
 -- an MS that leads to Mode was judged
-mode-judged : (p : Phase) (g : Given) → Due p g → Hears 1 g → isMode (kindOf (steps p g .next)) ≡ true → Judged g (steps p g)
+mode-judged : (p : Phase) (g : Given) → Due p g → HearsType 1 g → isMode (kindOf (steps p g .next)) ≡ true → Judged g (steps p g)
 mode-judged p g d h m =
     let kinds = AtInitial ∷ AtAskedE ∷ AtAskedD ∷ AtCounter ∷ AtListed ∷ AtHalf ∷ [] in
     by-test (isAmong (kindOf p) kinds)
@@ -94,7 +94,7 @@ module _ (c : Call) where
         next = ap (λ (x : Reply). x .next) e;
       }
 
-  module _ (d : Due (phaseOf c) (given c)) (h : Hears 1 (given c)) (m : isMode (kindOf (nextOf c)) ≡ true) where
+  module _ (d : Due (phaseOf c) (given c)) (h : HearsType 1 (given c)) (m : isMode (kindOf (nextOf c)) ≡ true) where
     then-mode : isMode (kindOf (o .next)) ≡ true
     then-mode = ap (λ (p : Phase). isMode (kindOf p)) (sym (shown .next)) ∙ m
 

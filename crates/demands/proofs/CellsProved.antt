@@ -35,7 +35,7 @@ use Rattle.station.specs.declared.Start.{Start}
 use Rattle.station.specs.declared.Start.the-variants.{MrEFirst, MrDFirst, CrEFirst, CrDFirst, MsFirst, ClFirst, ClrFirst}
 use Rattle.station.specs.declared.Event.{Event}
 use Rattle.station.specs.declared.Event.the-variants.{Begin, Tones, Field, Answer, Reset}
-use Rattle.demands.specs.Given.{Given, steps, InOctets, Sound, Due, Passes, actOn, doing, Hears, standardHeard}
+use Rattle.demands.specs.Given.{Given, steps, InOctets, Sound, Due, Passes, actOn, doing, HearsType, standardHeard}
 use Rattle.demands.specs.Sent.{IsField, listNamed}
 use Rattle.demands.specs.Proposals.{SendsMs, SendsClMs, Judged}
 use Rattle.demands.specs.Cells.{Comes, ComesMessage, NoneOf, SendsCl, SendsClr, Stores, MsOnList, ClMsOnList, ClOnList, Cells}

@@ -135,20 +135,20 @@ module _ (p : Phase) (g : Given) where
   act-told behind-list = behind-told (sentList 2 (g .set) (g .own)) (choiceBy (farHeard g) g) (g .set) (farOffer (g .field)) (g .run) (storedList (g .field)) (g .time)
 
 -- the wish, how its MS stands, and the next phase
-abbrev pub Proposed-by : Far → Given → Outcome → Type 0
-Proposed-by far g o = (y : Proposal far g) × SendsMode g (y .ms) o × (o .next ≡ proposedBy y)
+abbrev pub ProposedFirst : Far → Given → Outcome → Type 0
+ProposedFirst far g o = (y : Proposal far g) × SendsMode g (y .ms) o × (o .next ≡ proposedBy y)
 
 module _ {far : Far} {stored : List ℕ} {g : Given} {o : Outcome} (t : o .told ≡ 0) where
-  of-ms : SendsMs far stored g o → Proposed-by far g o
+  of-ms : SendsMs far stored g o → ProposedFirst far g o
   of-ms (ms-first x e) = (x, inl (ap (λ (o : Outcome). o .first) e, ap (λ (o : Outcome). o .second) e), ap (λ (o : Outcome). o .next) e)
   of-ms (ms-none n e) = absurd (omega (arith, ap (λ (o : Outcome). o .told) e))
 
-  of-cl-ms : SendsClMs far stored g o → Proposed-by far g o
+  of-cl-ms : SendsClMs far stored g o → ProposedFirst far g o
   of-cl-ms (cl-ms-first x cl c e) = (x, inr (rw (ap (λ (o : Outcome). o .first) e) c, ap (λ (o : Outcome). o .second) e), ap (λ (o : Outcome). o .next) e)
   of-cl-ms (cl-ms-none n e) = absurd (omega (arith, ap (λ (o : Outcome). o .told) e))
 
 module _ (p : Phase) (g : Given) (s : Sound g) (octets : InOctets g) where
-  act-first : {a : Act} {far : Far} → Proposing g a far → doing a p g .told ≡ 0 → Proposed-by far g (doing a p g)
+  act-first : {a : Act} {far : Far} → Proposing g a far → doing a p g .told ≡ 0 → ProposedFirst far g (doing a p g)
   unfolding farList
   act-first at-once t = of-ms t (ms-goes g s octets unheard [])
   act-first on-list t = of-ms t (ms-goes g s octets (farHeard g) (storedList (g .field)))
@@ -169,7 +169,7 @@ module _ (p : Phase) (g : Given) (x : Proposes p g) where
   none-suits = rw step-told (told-none (x .far) g)
 
   -- with success the first ready wish is proposed, among the common ones where a list was heard
-  pub proposed-first : InOctets g → steps p g .told ≡ 0 → Proposed-by (x .far) g (steps p g)
+  pub proposed-first : InOctets g → steps p g .told ≡ 0 → ProposedFirst (x .far) g (steps p g)
   proposed-first octets t =
       rw (follows p g (x .passes)) (act-first p g (x .passes .due .sound) octets (x .acts) (rw (follows p g (x .passes)) at t))
 

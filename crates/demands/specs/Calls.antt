@@ -17,7 +17,7 @@ use Rattle.station.specs.Contracts.{Steps}
 use Rattle.station.specs.declared.Event.{Event}
 use Rattle.station.specs.declared.Sends.the-variants.{NoSignal}
 use Rattle.station.specs.declared.Stepped.{Stepped}
-use Rattle.demands.specs.Given.{Given, steps, InOctets, Sound, Due, Hears, HearsSpoilt, standardHeard}
+use Rattle.demands.specs.Given.{Given, steps, InOctets, Sound, Due, HearsType, HearsSpoilt, standardHeard}
 use Rattle.demands.specs.Sent.{IsCl, IsField, farSays}
 use Rattle.demands.specs.Proposals.{Proposal, proposedBy, NoneSuits, Proposes}
 
@@ -98,9 +98,9 @@ pub record OverBuffers (c : Call) : Type 0 where
   pub eleven-none : (x : Proposes (phaseOf c) (given c)) → (told c ≡ 11) ↔ NoneSuits (x .far) (given c)
   pub eleven-leaves : told c ≡ 11 → (c .out₁ ≡ c .out₀) × (c .answer .signal ≡ NoSignal) × (nextOf c ≡ Initial (c .time))
   -- an MS that leads to Mode stands in the store, minimal; ACK(1), one octet 24, is sent exactly if it asks for that, and else nothing
-  pub mode-stored : Due (phaseOf c) (given c) → Hears 1 (given c) → isMode (kindOf (nextOf c)) ≡ true → IsField (standardHeard (given c)) (storedThen c)
-  pub ack-asked : Due (phaseOf c) (given c) → Hears 1 (given c) → isMode (kindOf (nextOf c)) ≡ true → (firstSent c ≡ 0x24 ∷ []) ↔ (farSays 4 (given c) ≡ true)
-  pub ack-unasked : Due (phaseOf c) (given c) → Hears 1 (given c) → isMode (kindOf (nextOf c)) ≡ true → (c .answer .first ≡ 0) ↔ (farSays 4 (given c) ≡ false)
+  pub mode-stored : Due (phaseOf c) (given c) → HearsType 1 (given c) → isMode (kindOf (nextOf c)) ≡ true → IsField (standardHeard (given c)) (storedThen c)
+  pub ack-asked : Due (phaseOf c) (given c) → HearsType 1 (given c) → isMode (kindOf (nextOf c)) ≡ true → (firstSent c ≡ 0x24 ∷ []) ↔ (farSays 4 (given c) ≡ true)
+  pub ack-unasked : Due (phaseOf c) (given c) → HearsType 1 (given c) → isMode (kindOf (nextOf c)) ≡ true → (c .answer .first ≡ 0) ↔ (farSays 4 (given c) ≡ false)
   -- an invalid frame, and a message refused with 2 or 4, gives NAK(1), one octet 28, and Initial
   pub nak-1 : Due (phaseOf c) (given c) → HearsSpoilt (given c) → (told c ≡ 0) × (c .answer .first ≡ 1) × (firstSent c ≡ 0x28 ∷ []) × (c .answer .second ≡ 0) × (nextOf c ≡ Initial (c .time))
   -- in a phase other than Initial and Mode an event 5000 ms after entry is handled, and one 5001 ms after is refused with 6

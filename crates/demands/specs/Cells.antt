@@ -24,7 +24,7 @@ use Rattle.station.specs.declared.Signal.the-variants.{MrE, MrD, CrE, CrD}
 use Rattle.station.specs.declared.Event.{Event}
 use Rattle.station.specs.declared.Event.the-variants.{Begin, Tones, Field, Answer, Reset}
 use Rattle.station.specs.declared.Sends.the-variants.{SendsMrE, SendsMrD, SendsCrE, SendsCrD}
-use Rattle.demands.specs.Given.{Given, steps, Sound, Due, Hears, HearsSpoilt}
+use Rattle.demands.specs.Given.{Given, steps, Sound, Due, HearsType, HearsSpoilt}
 use Rattle.demands.specs.Sent.{IsCl, IsClr, IsField, listNamed}
 use Rattle.demands.specs.Proposals.{SendsMs, SendsClMs, Judged}
 
@@ -34,7 +34,7 @@ Comes event p g = Due p g × (g .event ≡ event)
 
 -- and so does a message of a type: MS is 1, CL 2, CLR 3, ACK(1) 4, ACK(2) 5, NAK 8 to 11
 abbrev pub ComesMessage : ℕ → Phase → Given → Type 0
-ComesMessage kind p g = Due p g × Hears kind g
+ComesMessage kind p g = Due p g × HearsType kind g
 
 -- the phase is none of these
 abbrev pub NoneOf : List Kind → Phase → Type 0

@@ -75,7 +75,7 @@ doing a p g = does a p (g .set) (g .own) (g .run) (g .field) (g .time)
 -- ---- what is heard
 
 -- a message of a type: the message reader accepts the field
-pub record Hears (kind : ℕ) (g : Given) : Type 0 where
+pub record HearsType (kind : ℕ) (g : Given) : Type 0 where
   pub event : g .event ≡ Field
   pub reads : readMessage (g .field) 448 ≡ accepted
   pub type : typeOf (g .field) ≡ kind
