@@ -37,9 +37,15 @@ read_frame plain_read_frame;
 write_frame plain_write_frame;
 read_message plain_read_message;
 
-/* Where a function begins. The steps alone, without the functions above that call them, are local: bench/run gives them these names. */
+/* Where a function begins. The steps alone, without the functions above that call them, are local: bench/run gives them these names.
+   Where rustc has inlined plain's, the function that calls it stands for it. */
 typedef void entry(void);
 entry step_ours, step_plain;
+#ifdef PLAIN_STEP_INLINED
+#define PLAIN_STEP(name) (entry *)plain_##name
+#else
+#define PLAIN_STEP(name) step_plain
+#endif
 
 /* What an operation is called with; each looks at its own part. */
 struct input {
@@ -197,8 +203,8 @@ static const struct operation operations[OPERATIONS] = {
     {"message reader, octets", "read_message", 512, BOTH_JOBS(octet_reader), NULL, BOTH_ENTRIES(read_message)},
     {"message writer", "measure_write", 512, BOTH_JOBS(message_writer), NULL, BOTH_ENTRIES(measure_write)},
     {"striking", "measure_strike", 512, BOTH_JOBS(striking), NULL, BOTH_ENTRIES(measure_strike)},
-    {"station step on a list", "measure_list", 1024, BOTH_JOBS(step_list), NULL, step_ours, step_plain},
-    {"station step on an MS", "measure_mode", 1024, BOTH_JOBS(step_mode), NULL, step_ours, step_plain},
+    {"station step on a list", "measure_list", 1024, BOTH_JOBS(step_list), NULL, step_ours, PLAIN_STEP(measure_list)},
+    {"station step on an MS", "measure_mode", 1024, BOTH_JOBS(step_mode), NULL, step_ours, PLAIN_STEP(measure_mode)},
 };
 
 static struct result one, other, third;
