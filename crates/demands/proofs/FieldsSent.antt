@@ -13,11 +13,11 @@ use Rattle.table.specs.declared.Act.{Act}
 use Rattle.table.specs.declared.Act.the-variants.{NoRow, SendMrE, SendMrD, CounterMrD, SendCrE, SendCrD, Propose, SendCl, SendClr, PairClr, Take, Judge, Agree, GiveUp, SendNak1}
 use Rattle.table.specs.declared.After.the-variants.{ThenMs, ThenClMs, ThenCl, ThenHalf}
 use Rattle.station.specs.Sending.{sentAck}
-use Rattle.station.specs.Acting.{Outcome, asksAck, storedList, judges}
+use Rattle.station.specs.Acting.{Outcome, farList, asksAck, storedList, judges}
 use Rattle.station.proofs.Sendings.{ack-octet, nak-octet}
 use Rattle.demands.specs.Given.{Given, steps, InOctets, Sound, Passes, actOn, doing}
 use Rattle.demands.specs.Sent.{IsCl}
-use Rattle.demands.specs.Proposals.{Proposal, SendsMs, ms-first, ms-none, SendsClMs, cl-ms-first, cl-ms-none, FieldSent, nothing, ack, nak, cl, clr, ms}
+use Rattle.demands.specs.Proposals.{Proposal, SendsMs, ms-first, ms-none, SendsClMs, cl-ms-first, cl-ms-none, FieldSent, nothing, ack, nak, cl, clr, ms, ms-on-list}
 use Rattle.demands.proofs.Following.{verdictOn, farHeard, of-step}
 use Rattle.demands.proofs.Proposing.{cl-is-sent, clr-is-sent, ms-goes, cl-ms-go}
 use Rattle.demands.proofs.Accepting.{Verdicts, fits-ready, fits-unready, fits-none, verdicts}
@@ -26,13 +26,13 @@ use Rattle.demands.proofs.Accepting.{Verdicts, fits-ready, fits-unready
 abbrev Both : Given → Outcome → Type 0
 Both g o = FieldSent g (o .first) × FieldSent g (o .second)
 
-module _ {far : Far} {stored : List ℕ} {g : Given} {o : Outcome} where
+module _ {far : Far} {stored : List ℕ} {g : Given} {o : Outcome} (mode : (os : List ℕ) (x : Proposal far g) → os ≡ x .ms → FieldSent g os) where
   of-ms : SendsMs far stored g o → Both g o
-  of-ms (ms-first x e) = (ms far x (ap (λ (o : Outcome). o .first) e), nothing (ap (λ (o : Outcome). o .second) e))
+  of-ms (ms-first x e) = (mode (o .first) x (ap (λ (o : Outcome). o .first) e), nothing (ap (λ (o : Outcome). o .second) e))
   of-ms (ms-none n e) = (nothing (ap (λ (o : Outcome). o .first) e), nothing (ap (λ (o : Outcome). o .second) e))
 
   of-cl-ms : SendsClMs far stored g o → Both g o
-  of-cl-ms (cl-ms-first x l i e) = (cl (rw (ap (λ (o : Outcome). o .first) e) i), ms far x (ap (λ (o : Outcome). o .second) e))
+  of-cl-ms (cl-ms-first x l i e) = (cl (rw (ap (λ (o : Outcome). o .first) e) i), mode (o .second) x (ap (λ (o : Outcome). o .second) e))
   of-cl-ms (cl-ms-none n e) = (nothing (ap (λ (o : Outcome). o .first) e), nothing (ap (λ (o : Outcome). o .second) e))
 
 of-verdict : (g : Given) {v : ℕ} → Verdicts v → Both g (judges v (g .field) (g .time))
@@ -46,18 +46,19 @@ of-verdict g fits-none = (nak 3 (omega arith) (omega arith) (nak-octet 3), nothi
 
 module _ (p : Phase) (g : Given) (s : Sound g) (octets : InOctets g) where
   act-sends : (a : Act) → Both g (doing a p g)
+  unfolding farList
   act-sends NoRow = (nothing refl, nothing refl)
   act-sends SendMrE = (nothing refl, nothing refl)
   act-sends SendMrD = (nothing refl, nothing refl)
   act-sends CounterMrD = (nothing refl, nothing refl)
   act-sends SendCrE = (nothing refl, nothing refl)
   act-sends SendCrD = (nothing refl, nothing refl)
-  act-sends Propose = of-ms (ms-goes g s octets unheard [])
+  act-sends Propose = of-ms (λ os x e. ms x e) (ms-goes g s octets unheard [])
   act-sends SendCl = (cl (cl-is-sent g s octets), nothing refl)
   act-sends SendClr = (clr (clr-is-sent g s octets), nothing refl)
   act-sends PairClr = (clr (clr-is-sent g s octets), nothing refl)
-  act-sends (Take ThenMs) = of-ms (ms-goes g s octets (farHeard g) (storedList (g .field)))
-  act-sends (Take ThenClMs) = of-cl-ms (cl-ms-go g s octets (farHeard g) (storedList (g .field)))
+  act-sends (Take ThenMs) = of-ms (λ os x e. ms-on-list x e) (ms-goes g s octets (farHeard g) (storedList (g .field)))
+  act-sends (Take ThenClMs) = of-cl-ms (λ os x e. ms-on-list x e) (cl-ms-go g s octets (farHeard g) (storedList (g .field)))
   act-sends (Take ThenCl) = (cl (cl-is-sent g s octets), nothing refl)
   act-sends (Take ThenHalf) = (nothing refl, nothing refl)
   act-sends Judge = of-verdict g (verdicts g)

@@ -72,7 +72,9 @@ pub data FieldSent (g : Given) (os : List ℕ) : Type 0 where
   nak : (k : ℕ) → 1 ≤ k → k ≤ 3 → os ≡ (0x27 + k) ∷ [] → FieldSent g os
   cl : IsCl g os → FieldSent g os
   clr : IsClr g os → FieldSent g os
-  ms : (far : Far) (x : Proposal far g) → os ≡ x .ms → FieldSent g os
+  -- an MS by the wishes alone, or by the list heard
+  ms : (x : Proposal unheard g) → os ≡ x .ms → FieldSent g os
+  ms-on-list : (x : Proposal (heard (listNamed g)) g) → os ≡ x .ms → FieldSent g os
 
 -- ---- an MS is judged
 
