@@ -29,6 +29,7 @@ use Rattle.demands.proofs.Following.{follows, by-test, of-outcome}
 use Rattle.demands.proofs.Proposing.{two-answers, none-suits, proposed-first}
 use Rattle.demands.proofs.StepLines.{at-5000-handled, at-5001-timed-out, spoilt-nak, refusal-silent, refusal-keeps-output}
 use Rattle.demands.proofs.CellsProved.{hears, judged-at}
+use Rattle.demands.proofs.ListsReturn.{front-put}
 
 -- ---- what is put stands at the front
 
@@ -42,11 +43,7 @@ module _ (a b d : List ℕ) where
   second-part n k e f =
       rw (e, f, append-assoc a b (drop (length (a ++ b)) d), drop-append-seam a (b ++ drop (length (a ++ b)) d)) (take-append-seam b (drop (length (a ++ b)) d))
 
--- the whole of what is put, and behind it the list as it was
-all-part : (a d : List ℕ) (n : ℕ) → n ≡ length a → take n (put a d) ≡ a
-unfolding put
-all-part a d n e = rw e (take-append-seam a (drop (length a) d))
-
+-- behind what is put the list is as it was
 behind-part : (a d : List ℕ) (n : ℕ) → n ≡ length a → drop n (put a d) ≡ drop n d
 unfolding put
 behind-part a d n e = rw e (drop-append-seam a (drop (length a) d))
@@ -89,7 +86,7 @@ module _ (c : Call) where
         firstLength = f;
         second = ap (λ (l : List ℕ). take (c .answer .second) (drop (c .answer .first) l)) (did .output) ∙ second-part (o .first) (o .second) (c .out₀) (c .answer .first) (c .answer .second) f s;
         secondLength = s;
-        stored = ap (take (c .answer .stored)) (did .store) ∙ all-part (o .stored) (c .store₀) (c .answer .stored) t;
+        stored = ap (take (c .answer .stored)) (did .store) ∙ front-put (o .stored) (c .store₀) (c .answer .stored) t;
         storedLength = t;
         next = ap (λ (x : Reply). x .next) e;
       }

@@ -97,7 +97,7 @@ message-never-zero kind revision list ns room =
 -- ---- what each success leaves
 
 -- what was put over a front is that front
-front-put : (xs d : List ℕ) (n : ℕ) → n ≡ length xs → take n (put xs d) ≡ xs
+pub front-put : (xs d : List ℕ) (n : ℕ) → n ≡ length xs → take n (put xs d) ≡ xs
 unfolding put
 front-put xs d n e = rw e (take-append-seam xs (drop (length xs) d))
 

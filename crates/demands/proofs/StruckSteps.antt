@@ -200,14 +200,15 @@ module _ {m m′ : List ℕ} (a : Alike m m′) where
 
 -- ---- a message and its struck form
 
+-- what is named stays the same where some of it was picked out before
+pub named-once : (i s : List ℕ) → only namedCode (only namedCode i ++ s) ≡ only namedCode (i ++ s)
+named-once i s = only-append namedCode (only namedCode i) s ∙ rw (only-only namedCode i) (sym (only-append namedCode i s))
+
 module _ (m : List ℕ) (o : AreOctets m) (e : readMessage m listRoom ≡ accepted) where
   -- the named codes of an MS are those of what stays of it
   ms-named : typeOf m ≡ 1 → only namedCode (struckCodes m) ≡ only namedCode (messageCodes m)
   unfolding struckCodes messageCodes
-  ms-named ms =
-      let i = fieldCodes (fieldBase 1) m 1 in
-      let s = fieldCodes (fieldBase 2) m (standardAt m) in
-      rw ms (only-append namedCode (only namedCode i) s ∙ rw (only-only namedCode i) (sym (only-append namedCode i s)))
+  ms-named ms = rw ms (named-once (fieldCodes (fieldBase 1) m 1) (fieldCodes (fieldBase 2) m (standardAt m)))
 
   same-named : only namedCode (messageCodes (struckForm m)) ≡ only namedCode (messageCodes m)
   same-named = rw (struck-is-read m listRoom o e) (go (eqb (typeOf m) 1) refl)

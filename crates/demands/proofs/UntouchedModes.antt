@@ -25,22 +25,18 @@ use Rattle.writer.specs.Written.{written}
 use Rattle.writer.specs.Writer.{nsAgrees}
 use Rattle.writer.proofs.Announcing.{field-seven, tail-agrees}
 use Rattle.writer.proofs.RoundTrip.{readable-accepted, field-back}
-use Rattle.names.specs.Named.{rowsUnder, rowAt, rowOf, namedCode}
+use Rattle.names.specs.Named.{namedCode}
 use Rattle.names.specs.Masks.{only}
 use Rattle.names.specs.declared.Keep.the-variants.{Named}
-use Rattle.names.proofs.Sieving.{only-append, only-only, in-only}
+use Rattle.names.proofs.Sieving.{in-only}
+use Rattle.strike.proofs.StruckForms.{ns-named}
 use Rattle.strike.proofs.Crossing.{kept-is-written, kept-means, kept-fits}
 use Rattle.table.specs.declared.Phase.{Phase}
 use Rattle.table.specs.declared.Settings.{Settings}
 use Rattle.station.specs.Stepping.{stepOf}
 use Rattle.station.specs.declared.Event.the-variants.{Field}
 use Rattle.demands.specs.Untouched.{onlyIStruck}
-use Rattle.demands.proofs.StruckSteps.{Alike, alike-steps}
-
--- the code that announces NS is named
-ns-named : namedCode (codeOf 1 0 0 7) ≡ true
-unfolding rowsUnder rowAt rowOf
-ns-named = refl
+use Rattle.demands.proofs.StruckSteps.{Alike, alike-steps, named-once}
 
 -- the codes of I that stay, and what stands behind octet 1 then
 abbrev staying : List ℕ → List ℕ
@@ -132,10 +128,8 @@ module _ (m : List ℕ) (o : AreOctets m) (e : readMessage m listRoom ≡ accept
 
   same-named : only namedCode (messageCodes (onlyIStruck m)) ≡ only namedCode (messageCodes m)
   same-named =
-      let i = fieldCodes (fieldBase 1) m 1 in
-      let s = fieldCodes (fieldBase 2) m (standardAt m) in
       rw (codes-fields (onlyIStruck m) fields′, codes-fields m fields, first .0, second)
-      (only-append namedCode (only namedCode i) s ∙ rw (only-only namedCode i) (sym (only-append namedCode i s)))
+      (named-once (fieldCodes (fieldBase 1) m 1) (fieldCodes (fieldBase 2) m (standardAt m)))
 
   pub untouched-alike : Alike (onlyIStruck m) m
   untouched-alike = record { fine = still-fine; fine′ = e; kind = same-kind; named = same-named; mode = λ k. second }

@@ -56,7 +56,7 @@ abbrev pub secondStays : List ℕ → List ℕ
 secondStays l = only (keeps (standardKeep (typeOf l))) (fieldCodes (fieldBase 2) l (standardAt l))
 
 -- the code that announces NS is named
-ns-named : namedCode (codeOf 1 0 0 7) ≡ true
+pub ns-named : namedCode (codeOf 1 0 0 7) ≡ true
 unfolding rowsUnder rowAt rowOf
 ns-named = refl
 
