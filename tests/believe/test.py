@@ -23,6 +23,7 @@ pub record {0} : Type 0 where
 
 TREE = {
     "crates.txt": "# Bottom up.\nlow:\nhigh: low\nmeasure: low\ntool: low\ndemands: high low\n",
+    "docs/RULES.md": "# Rules\n\n1. A word ([`word`](../crates/low/specs/Words.antt)), and a type ([`Sign`](../crates/low/src/lib.rt)).\n",
     "docs/BELIEVED.md": "# Believed\n\n<!-- list -->\n<!-- end of list -->\n\nThe end.\n",
     "crates/low/src/lib.rt": """// A comment with pub fn in it.
 ghost use mathlib.Core.Path.{_≡_};
@@ -347,6 +348,20 @@ class Walk(unittest.TestCase):
     def test_no_list(self):
         (self.root / "docs/BELIEVED.md").unlink()
         self.breaches(*(f"docs/BELIEVED.md lacks {line}" for line in dict.fromkeys(LISTED.splitlines()) if line))
+
+    # 6. docs/RULES.md leads to definitions.
+
+    def test_rule_without_definition(self):
+        self.edit("docs/RULES.md", "[`word`]", "[`wor`]")
+        self.breaches("docs/RULES.md: no wor in crates/low/specs/Words.antt")
+
+    def test_rule_without_file(self):
+        self.edit("docs/RULES.md", "specs/Words.antt", "specs/Word.antt")
+        self.breaches("docs/RULES.md: no word in crates/low/specs/Word.antt")
+
+    def test_no_rules(self):
+        (self.root / "docs/RULES.md").unlink()
+        self.breaches("docs/RULES.md is missing")
 
 
 if __name__ == "__main__":

@@ -7,7 +7,7 @@
 
 It holds that (1) what is reached stands in specs/, or is a type declared in src/; (2) each file of specs/ says on its first line whether
 it is to be believed or inner; (3) in a file to be believed every definition is reached, in an inner one none; (4) each public function
-ensures one contract, by its name, which stands in its crate's specs/ and is cited in DemandOne; (5) docs/BELIEVED.md lists what is reached.
+ensures one contract, by its name, which stands in its crate's specs/ and is cited in DemandOne; (5) docs/BELIEVED.md lists what is reached; (6) each definition to which docs/RULES.md leads stands where it says.
 """
 import difflib
 import re
@@ -247,6 +247,18 @@ def check_contract(function, unique):
         breach(f"{function}: its contract {contract.name} is not cited in DemandOne")
 
 
+def check_rules(tree):
+    """Each link of docs/RULES.md from a name to a file of crates/ leads to what has that name."""
+    page = tree.root / "docs/RULES.md"
+    if not page.is_file():
+        return tree.breach("docs/RULES.md is missing")
+    for name, path in dict.fromkeys(re.findall(r"\[`([^`]+)`\]\(\.\./(crates/[^)#]+)\)", page.read_text())):
+        file = tree.root / path
+        head = rf"^\s*(?:(?:abbrev|unfoldable|pub|record|data|fn|struct|enum) )*{re.escape(name)}(?![\w-])"
+        if not file.is_file() or not re.search(head, file.read_text(), re.M):
+            tree.breach(f"docs/RULES.md: no {name} in {path}")
+
+
 def listed(tree, records):
     """The files reached, crate by crate from the bottom, those of the demand records first."""
     def line(file):
@@ -298,6 +310,7 @@ def main(arguments):
         elif file.definitions or not file.path.endswith("/Lib.antt"):
             tree.breach(f"{file.path} is not marked '{BELIEVED}..' or '{INNER}..' ({len(reached)} of {len(file.definitions)} definitions reached)")
 
+    check_rules(tree)
     made, page = listed(tree, records), tree.root / "docs/BELIEVED.md"
     before, _, rest = (page.read_text() if page.is_file() else "").partition(BEGIN)
     kept, _, after = rest.partition(END)
