@@ -1,4 +1,3 @@
-pub mod Fours
 pub mod FrameTold
 pub mod MessageTold
 pub mod ChipUnique

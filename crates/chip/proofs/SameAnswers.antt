@@ -11,15 +11,13 @@ use Rattle.frame.specs.Writer as writer
 use Rattle.frame.specs.declared.FrameRead.{FrameRead}
 use Rattle.frame.specs.declared.FrameWritten.{FrameWritten}
 use Rattle.tree.specs.Fields.{fours}
-use Rattle.message.specs.Reader.{listRoom, messageCodes, Reading, refused, accepted, readMessage, readTold, readReply, readLeaves, Reads}
+use Rattle.fill.proofs.Stored.{fours-length}
+use Rattle.message.specs.Reader.{listRoom, messageCodes, Reading, refused, accepted, readMessage, readTold, readReply, codesRead, Reads, roomOf}
 use Rattle.message.specs.declared.MessageRead.{MessageRead}
 use Rattle.message.proofs.Reading.{room-enough}
-use Rattle.chip.specs.Answers.{frameAnswer, ReadsFrame, WritesFrame, messageAnswer, octetsLeft, ReadsMessage}
-use Rattle.chip.specs.Inner.{listOctets}
+use Rattle.chip.specs.Answers.{frameAnswer, ReadsFrame, WritesFrame, messageAnswer, ReadsMessage}
 use Rattle.chip.specs.declared.FrameAnswer.{FrameAnswer}
 use Rattle.chip.specs.declared.MessageAnswer.{MessageAnswer}
-use Rattle.chip.proofs.Fours.{length-fours}
-use Rattle.chip.proofs.MessageTold.{enough}
 
 -- the frame reader
 pub frame-read-same : (run : List ℕ) (count : ℕ) (out₀ : List ℕ) (r : FrameRead) (r′ : FrameAnswer) (out₁ out₁′ : List ℕ)
@@ -35,18 +33,18 @@ frame-write-same info opening closing out₀ r r′ out₁ out₁′ a b = (b .r
 
 -- the message reader, with lists that are large enough: as many codes are told, and the octets at the front are those of the numbers there
 pub message-read-same : (l list₀ octets₀ : List ℕ) (r : MessageRead) (r′ : MessageAnswer) (list₁ octets₁ : List ℕ) → listRoom ≤ length list₀
-    → listOctets ≤ length octets₀ → Reads l list₀ r list₁ → ReadsMessage l octets₀ r′ octets₁
+    → listRoom ≤ roomOf octets₀ → Reads l list₀ r list₁ → ReadsMessage l octets₀ r′ octets₁
     → (r′ ≡ messageAnswer (readTold r)) × (take (4 * r′ .codes) octets₁ ≡ fours (take (r′ .codes) list₁))
 unfolding put fours
 message-read-same l list₀ octets₀ r r′ list₁ octets₁ h k a b =
     let e = room-enough l (length list₀) h in
-    let f = enough l octets₀ k in
+    let f = room-enough l (roomOf octets₀) k in
     go (readMessage l listRoom) (rw e at (a .reply)) (rw e at (a .list)) (rw f at (b .reply)) (rw f at (b .list))
   where
-    go : (x : Reading) → readTold r ≡ readReply x l → list₁ ≡ readLeaves x l list₀ → r′ ≡ messageAnswer (readReply x l) → octets₁ ≡ octetsLeft x l octets₀
+    go : (x : Reading) → readTold r ≡ readReply x l → list₁ ≡ put (codesRead x l) list₀ → r′ ≡ messageAnswer (readReply x l) → octets₁ ≡ put (fours (codesRead x l)) octets₀
         → (r′ ≡ messageAnswer (readTold r)) × (take (4 * r′ .codes) octets₁ ≡ fours (take (r′ .codes) list₁))
     go (refused n) p q u v = (u ∙ ap messageAnswer (sym p), rw u)
     go accepted p q u v =
         let cs = messageCodes l in
         let fs = fours cs in
-        (u ∙ ap messageAnswer (sym p), rw (u, q, v, take-at cs (drop (length cs) list₀) (length cs) refl) (take-at fs (drop (length fs) octets₀) (4 * length cs) (length-fours cs)))
+        (u ∙ ap messageAnswer (sym p), rw (u, q, v, take-at cs (drop (length cs) list₀) (length cs) refl) (take-at fs (drop (length fs) octets₀) (4 * length cs) (fours-length cs)))

@@ -1,7 +1,7 @@
 -- To be believed: what the three exported functions answer and leave: the same as the operations that they pass on, as plain
 -- numbers, and each number of the message reader's list as four octets, lowest first (RULES, Scope 5).
 -- Assumes nothing.
-use Prim.Native.Nat.{ℕ, _/_}
+use Prim.Native.Nat.{ℕ}
 use mathlib.Core.List.{List}
 use mathlib.Core.Path.{_≡_}
 use lib.ListN.{length}
@@ -9,7 +9,7 @@ use Rattle.octets.specs.Lay.{put}
 use Rattle.frame.specs.Reader as reader
 use Rattle.frame.specs.Writer as writer
 use Rattle.tree.specs.Fields.{fours}
-use Rattle.message.specs.Reader.{Reading, refused, accepted, readMessage, messageCodes, readReply}
+use Rattle.message.specs.Reader.{readMessage, readReply, codesRead, roomOf}
 use Rattle.message.specs.Reader as message
 use Rattle.chip.specs.declared.FrameAnswer.{FrameAnswer}
 use Rattle.chip.specs.declared.MessageAnswer.{MessageAnswer}
@@ -40,16 +40,7 @@ messageAnswer x =
       «ns_length» = x .nsLength;
     }
 
--- how many numbers a list of octets has room for
-abbrev pub roomOf : List ℕ → ℕ
-roomOf list = length list / 4
-
--- the list: a refusal writes nothing, success the codes, four octets to each, and nothing behind them
-abbrev pub octetsLeft : Reading → List ℕ → List ℕ → List ℕ
-octetsLeft (refused k) l list = list
-octetsLeft accepted l list = put (fours (messageCodes l)) list
-
--- the message reader
+-- the message reader: the codes are stored, four octets to each, and nothing behind them
 pub record ReadsMessage (l list₀ : List ℕ) (r : MessageAnswer) (list₁ : List ℕ) : Type 0 where
   pub reply : r ≡ messageAnswer (readReply (readMessage l (roomOf list₀)) l)
-  pub list : list₁ ≡ octetsLeft (readMessage l (roomOf list₀)) l list₀
+  pub list : list₁ ≡ put (fours (codesRead (readMessage l (roomOf list₀)) l)) list₀

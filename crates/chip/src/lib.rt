@@ -1,26 +1,13 @@
 // What the chip's firmware calls from C (RULES, Scope 5: the frame reader, the frame writer and the message reader): three
 // functions on numbers and slices, each with the promise of the operation that it passes on.
 ghost use mathlib.Core.Path.{_≡_};
-ghost use Prim.Native.Nat.{_-_, _<_, _≤_};
-ghost use lib.ListN.{length};
-ghost use Rattle.octets.specs.Places.{pick};
-ghost use Rattle.message.specs.Check.{checkTold, checkMessage};
-ghost use Rattle.message.specs.Nonstandard.{nsAnnounced};
-ghost use Rattle.message.specs.Reader.{mostOctets};
 ghost use Rattle.chip.specs.Answers.{ReadsFrame, WritesFrame, ReadsMessage};
-ghost use Rattle.chip.specs.Inner.{listOctets};
-use fill::fill_octets;
 use frame::FrameRead;
 use frame::FrameWritten;
 use frame::read_frame;
 use frame::write_frame;
-use message::MessageCheck;
-use message::Parts;
-use message::check_message;
-use tree::Field;
-
-// The octets of the smallest list that is taken: 448 numbers of four octets.
-const LIST_OCTETS: usize = 1792;
+use message::MessageRead;
+use message::read_octets;
 
 // What a frame function answers: the rules' number, 0 for success, and the number of octets read or of bits written.
 #[repr(C)]
@@ -105,68 +92,23 @@ fn message_refusal(no: u32) -> MessageAnswer
     }
 }
 
-// Where NS lies in a message with fields.
-pub struct Place {
-    pub at: u32,
-    pub length: u32,
-}
-
-// NS of a message with fields begins at a place, if it is announced.
-fn ns_place(message: &[u8], tail: usize) -> Place
-    requires { ⌜ (1 < length (now message)) × (tail ≤ length (now message)) × (length (now message) ≤ mostOctets) ⌝ }
-    ensures { λ r. ⌜ (r .at ≡ pick (nsAnnounced (now (message .entry))) tail 0) × (r .length ≡ pick (nsAnnounced (now (message .entry))) (length (now (message .entry)) - tail) 0) ⌝ }
-{
-    if (message[1] / 64) % 2 == 1 {
-        return Place {
-            at: tail as u32,
-            length: (message.len() - tail) as u32,
-        };
-    }
-    Place { at: 0, length: 0 }
-}
-
-// Reads a well-formed message, whose parts are known: its codes into the list.
-fn read_parts(message: &[u8], parts: Parts, list: &mut [u8]) -> MessageAnswer
-    requires { ⌜ (checkTold (MessageCheck.Parted parts) ≡ checkMessage (now message)) × (listOctets ≤ length (now list)) ⌝ }
-    ensures { λ r. ⌜ ReadsMessage (now (message .entry)) (now (list .entry)) r (now (list .exit)) ⌝ }
-{
-    let kind = parts.kind as u32;
-    let revision = (message[0] / 16) as u32;
-    if 4 <= kind {
-        return MessageAnswer {
-            refusal: 0,
-            kind,
-            revision,
-            codes: 0,
-            ns_at: 0,
-            ns_length: 0,
-        };
-    }
-    let n = fill_octets(message, 1, Field::Identification, list);
-    let k = fill_octets(message, parts.standard, Field::Standard, &mut list[4 * n..]);
-    let ns = ns_place(message, parts.tail);
-    MessageAnswer {
-        refusal: 0,
-        kind,
-        revision,
-        codes: (n + k) as u32,
-        ns_at: ns.at,
-        ns_length: ns.length,
-    }
-}
-
 // The message reader: it fills the front of the list with the message's codes, in ascending order, four octets to each, lowest first.
 #[no_mangle]
 pub extern "C" fn kamvezhor_read_message(message: &[u8], list: &mut [u8]) -> MessageAnswer
     ensures { λ r. ⌜ ReadsMessage (now (message .entry)) (now (list .entry)) r (now (list .exit)) ⌝ }
 {
-    if list.len() < LIST_OCTETS {
-        return message_refusal(1);
-    }
-    match check_message(message) {
-        MessageCheck::Parted(parts) => read_parts(message, parts, list),
-        MessageCheck::BadSize => message_refusal(2),
-        MessageCheck::UnknownType => message_refusal(3),
-        MessageCheck::Malformed => message_refusal(4),
+    match read_octets(message, list) {
+        MessageRead::Read(m) => MessageAnswer {
+            refusal: 0,
+            kind: m.kind as u32,
+            revision: m.revision as u32,
+            codes: m.count as u32,
+            ns_at: m.ns.at as u32,
+            ns_length: m.ns.length as u32,
+        },
+        MessageRead::SmallList => message_refusal(1),
+        MessageRead::BadSize => message_refusal(2),
+        MessageRead::UnknownType => message_refusal(3),
+        MessageRead::Malformed => message_refusal(4),
     }
 }

@@ -8,7 +8,7 @@ use Rattle.tree.specs.Codes.{subCodes, subsBehind, groupCodes, groupBehind, par
 use Rattle.tree.specs.Form.{blockForm, subsForm, groupForm, parsForm, restForm, fieldForm}
 use Rattle.tree.specs.Fields.{codesIn, isIn, allIn, hasSpar}
 use Rattle.tree.specs.declared.Field.the-variants.{Standard}
-use Rattle.writer.specs.Minimal.{fullAtEnd, tight, subsMinimal, groupMinimal, parsMinimal, fieldMinimal}
+use Rattle.meaning.specs.Minimal.{fullAtEnd, tight, subsMinimal, groupMinimal, parsMinimal, fieldMinimal}
 use Rattle.names.specs.Named.{rowsUnder, rowAt, rowOf}
 use Rattle.good.specs.Good.{allStandard, goodField}
 use Rattle.choice.specs.Wishes.{wishesIn, wishesOf, standardCodes, goodRecords}

@@ -21,7 +21,8 @@ use Rattle.choice.specs.declared.Entry.{Entry}
 use Rattle.choice.specs.declared.Entry.the-variants.{Record, Over}
 use Rattle.choice.specs.declared.Pick.{Pick}
 use Rattle.choice.specs.declared.Slot.{Slot}
-use Rattle.choice.proofs.Truths.{same-tests, both-parts}
+use Rattle.choice.proofs.Truths.{same-tests}
+use Rattle.octets.proofs.Laws.{both-true}
 use Rattle.choice.proofs.Records.{entered, choice-step}
 use Rattle.choice.proofs.Tabled.{good-fields, wish-named, tables-good}
 
@@ -117,14 +118,14 @@ first-member f = rw (f .wishes) (Memᴰ·append-right (f .before) (List·Memᴰ�
 -- and it is ready
 pub first-is-ready : (own : List ℕ) (far : Far) (run : List ℕ) (p : Pick) (f : First own far run p) → f .wish .ready ≡ true
 first-is-ready own unheard run p f = f .suited
-first-is-ready own (heard far) run p f = both-parts (f .wish .ready) _ (f .suited) .0
+first-is-ready own (heard far) run p f = both-true (f .wish .ready) _ (f .suited) .0
 
 -- with a far list, what is chosen lies in the own table and in that list
 pub chosen-common : (own far run : List ℕ) (p : Pick) → choice own (heard far) run ≡ chosen p
     → let codes = standardCodes (take (p .length) (drop (p .at) run)) in (allIn codes own ≡ true) × (allIn codes far ≡ true)
 chosen-common own far run p e =
     let f = chosen-first own (heard far) run p e in
-    rw (f .field) (both-parts (allIn (wishCodes (f .wish)) own) (allIn (wishCodes (f .wish)) far) (both-parts (f .wish .ready) _ (f .suited) .1))
+    rw (f .field) (both-true (allIn (wishCodes (f .wish)) own) (allIn (wishCodes (f .wish)) far) (both-true (f .wish .ready) _ (f .suited) .1))
 
 -- and from good tables, far list or none, it is a good field with an SPar(1) that lies in the own table
 pub chosen-good : (own run : List ℕ) (far : Far) (p : Pick) → tablesNo own run ≡ 0 → choice (standardCodes own) far run ≡ chosen p

@@ -6,15 +6,15 @@ use mathlib.Core.List.{List, [], _∷_, List·Memᴰ, List·Memᴰ·head, List·
 use mathlib.Core.Logic.{⊎-elim}
 use mathlib.Core.Path.{_≡_, refl, sym, _∙_}
 use native.Mathlib.Omega.{arith}
-use Rattle.octets.specs.Places.{pick}
+use Rattle.octets.specs.Places.{pick, both}
 use Rattle.tree.specs.Fields.{isIn, allIn, hasSpar}
 use Rattle.tree.proofs.Within.{isIn-allIn, allIn-isIn}
 use Rattle.tree.proofs.Modes.{spar-in, spar-some}
-use Rattle.writer.specs.Minimal.{both}
 use Rattle.names.specs.Named.{namedCode}
 use Rattle.choice.specs.Wishes.{Wish, wishesOf, wishCodes, goodWishes}
 use Rattle.choice.specs.Judging.{fits, fitsSome, fitsReady, verdict, Fitting}
-use Rattle.choice.proofs.Truths.{never, not-so, same-tests, both-parts, both-not, not-both}
+use Rattle.choice.proofs.Truths.{never, not-so, same-tests, both-not, not-both}
+use Rattle.octets.proofs.Laws.{both-true}
 use Rattle.choice.proofs.Tabled.{wish-named}
 
 -- ---- some wish passes a test
@@ -102,7 +102,7 @@ module _ (mode : List ℕ) (ws : List Wish) where
   -- it does where a wish's test tells so
   abbrev fitting : (w : Wish) → List·Memᴰ w ws → fits mode w ≡ true → Fitting mode ws
   fitting w m e =
-      let p = both-parts (hasSpar mode) (allIn mode (wishCodes w)) e in record { wish = w; member = m; spar = p .0; lies = p .1 }
+      let p = both-true (hasSpar mode) (allIn mode (wishCodes w)) e in record { wish = w; member = m; spar = p .0; lies = p .1 }
 
   -- and where it does, the test tells so
   fits-there : (f : Fitting mode ws) → fits mode (f .wish) ≡ true
@@ -117,7 +117,7 @@ module _ (mode : List ℕ) (ws : List Wish) where
   pub accepted : verdict mode ws ≡ 0 → (f : Fitting mode ws) × (f .wish .ready ≡ true)
   accepted e =
       let o = some-one (fitsIfReady mode) ws (only-accepted (someWish (fitsIfReady mode) ws) (someWish (fits mode) ws) (sym told ∙ e)) in
-      let b = both-parts (o .0 .ready) (fits mode (o .0)) (o .2) in
+      let b = both-true (o .0 .ready) (fits mode (o .0)) (o .2) in
       (fitting (o .0) (o .1) (b .1), b .0)
 
   -- and one that does is accepted

@@ -9,9 +9,8 @@ use borrow.Author.Tests.{ltb-true, ltb-false, leb-true, le-leb, lt-leb}
 use lib.Dec.{ltb, leb, eqb}
 use lib.ListN.{length, getD, take, drop, length-drop, drop-of-length-le}
 use lib.Seq.{drop-cons, drop-drop, length-take-le}
-use Rattle.octets.specs.Places.{pick}
+use Rattle.octets.specs.Places.{pick, both}
 use Rattle.tree.specs.Fields.{allIn, hasSpar}
-use Rattle.writer.specs.Minimal.{both}
 use Rattle.choice.specs.Wishes.{Wish, mostWishes, wishesIn, wishesOf, wishCodes, goodWish, goodRecords, goodWishes}
 use Rattle.choice.specs.Choosing.{Far, suits, chosen, firstSuiting}
 use Rattle.choice.specs.Judging.{fitsSome, fitsReady}

@@ -18,13 +18,14 @@ use Rattle.tree.specs.Fields.{isIn, allIn, hasSpar}
 use Rattle.tree.specs.declared.Field.the-variants.{Standard}
 use Rattle.tree.proofs.Within.{in-cases}
 use Rattle.message.proofs.Room.{codes-in}
-use Rattle.writer.specs.Minimal.{fieldMinimal}
+use Rattle.meaning.specs.Minimal.{fieldMinimal}
 use Rattle.names.specs.Named.{namedCode, standardCode}
 use Rattle.names.proofs.Strictness.{keeps-named}
 use Rattle.good.specs.Good.{mostStandard, allStandard, goodField}
 use Rattle.choice.specs.Wishes.{recordsOf, Wish, mostWishes, wishesIn, wishesOf, standardCodes, wishCodes, goodWish, goodRecords, goodWishes}
 use Rattle.choice.specs.Tables.{goodOwn, allInside, tablesNo}
-use Rattle.choice.proofs.Truths.{never, both-parts}
+use Rattle.choice.proofs.Truths.{never}
+use Rattle.octets.proofs.Laws.{both-true}
 
 -- ---- good records
 
@@ -33,9 +34,9 @@ good-step : (k r n : ℕ) (l : List ℕ) → goodRecords (suc k) (r ∷ (n ∷ l
     → (r ≤ 1) × (n ≤ length l) × (goodWish (take n l) ≡ true) × (goodRecords k (drop n l) ≡ true)
 unfolding goodRecords
 good-step k r n l g =
-    let a = both-parts (leb r 1) _ g in
-    let b = both-parts (leb n (length l)) _ (a .1) in
-    let c = both-parts (goodWish (take n l)) _ (b .1) in
+    let a = both-true (leb r 1) _ g in
+    let b = both-true (leb n (length l)) _ (a .1) in
+    let c = both-true (goodWish (take n l)) _ (b .1) in
     (leb-true r 1 (a .0), leb-true n (length l) (b .0), c .0, c .1)
 
 -- each wish of good records has a good field
@@ -108,23 +109,23 @@ pub standard-at : (x : ℕ) (l : List ℕ) → allStandard l ≡ true → isIn x
 unfolding allStandard isIn
 standard-at x [] a i = never i
 standard-at x (y ∷ l) a i =
-    let p = both-parts (standardCode y) (allStandard l) a in
+    let p = both-true (standardCode y) (allStandard l) a in
     ⊎-elim (λ (e : y ≡ x). ap standardCode (sym e) ∙ p .0) (λ (k : isIn x l ≡ true). standard-at x l (p .1) k) (in-cases x y l i)
 
 -- a good field has none but standard codes
 pub good-standard : (t : List ℕ) (x : ℕ) → goodField t ≡ true → isIn x (standardCodes t) ≡ true → standardCode x ≡ true
 unfolding goodField
 good-standard t x g i =
-    let a = both-parts (leb (length t) mostStandard) _ g in
-    let b = both-parts (isFine (fieldForm t 0)) _ (a .1) in
-    let c = both-parts (eqb (fieldBehind t 0) (length t)) _ (b .1) in
-    let d = both-parts (fieldMinimal t 0) _ (c .1) in
+    let a = both-true (leb (length t) mostStandard) _ g in
+    let b = both-true (isFine (fieldForm t 0)) _ (a .1) in
+    let c = both-true (eqb (fieldBehind t 0) (length t)) _ (b .1) in
+    let d = both-true (fieldMinimal t 0) _ (c .1) in
     standard-at x (fieldCodes (fieldBase 2) t 0) (d .1) (rw (codes-in Standard t 0 (omega (arith, leb-true (length t) mostStandard (a .0)))) at i)
 
 -- so each code of good wishes is named
 pub wish-named : (run : List ℕ) → goodWishes run ≡ true → (w : Wish) → List·Memᴰ w (wishesOf run) → (x : ℕ) → isIn x (wishCodes w) ≡ true → namedCode x ≡ true
 wish-named run g w m x i =
-    keeps-named x (good-standard (w .field) x (both-parts (goodField (w .field)) _ (good-fields mostWishes run g w m) .0) i)
+    keeps-named x (good-standard (w .field) x (both-true (goodField (w .field)) _ (good-fields mostWishes run g w m) .0) i)
 
 -- ---- the tables
 
@@ -133,7 +134,7 @@ pub inside-each : (own : List ℕ) (ws : List Wish) → allInside own ws ≡ tru
 unfolding allInside
 inside-each own [] a w m = absurd (List·Memᴰ·not-nil m)
 inside-each own (v ∷ ws) a w m =
-    let p = both-parts (allIn (wishCodes v) (standardCodes own)) (allInside own ws) a in
+    let p = both-true (allIn (wishCodes v) (standardCodes own)) (allInside own ws) a in
     ⊎-elim (λ e. rw e (p .0)) (λ d. inside-each own ws (p .1) w d) (List·Memᴰ·cases-cons m)
 
 -- and if each does, all do
@@ -159,7 +160,7 @@ unfolding tablesNo
 tables-good own run e =
     let p = passed (goodOwn own) (goodWishes run) (allInside own (wishesOf run)) e in
     let f : (w : Wish) → List·Memᴰ w (wishesOf run) → (goodField (w .field) ≡ true) × (hasSpar (wishCodes w) ≡ true) =
-    λ w m. both-parts (goodField (w .field)) (hasSpar (wishCodes w)) (good-fields mostWishes run (p .1) w m) in
+    λ w m. both-true (goodField (w .field)) (hasSpar (wishCodes w)) (good-fields mostWishes run (p .1) w m) in
     record {
       table = p .0;
       wishes = p .1;

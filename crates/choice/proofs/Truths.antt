@@ -4,7 +4,7 @@ use mathlib.Core.Bool.{Bool, true, false}
 use mathlib.Core.Path.{_≡_, refl, sym, ap, _∙_}
 use native.Mathlib.Omega.{arith}
 use Rattle.octets.specs.Bits.{num}
-use Rattle.writer.specs.Minimal.{both}
+use Rattle.octets.specs.Places.{both}
 
 -- no test is both false and true
 pub never : {A : Type 0} → false ≡ true → A
@@ -20,11 +20,6 @@ pub same-tests : (s t : Bool) → (s ≡ true → t ≡ true) → (t ≡ true �
 same-tests true t f g = sym (f refl)
 same-tests false true f g = g refl
 same-tests false false f g = refl
-
--- both of two tests hold
-pub both-parts : (s t : Bool) → both s t ≡ true → (s ≡ true) × (t ≡ true)
-both-parts true t e = (refl, e)
-both-parts false t e = (e, never e)
 
 -- with one that is false both do not
 pub both-false : (t : Bool) → both t false ≡ false

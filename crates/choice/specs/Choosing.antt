@@ -6,10 +6,9 @@ use mathlib.Core.Bool.{Bool, true, false}
 use mathlib.Core.List.{List, [], _∷_, _++_, List·Memᴰ}
 use mathlib.Core.Path.{_≡_}
 use lib.ListN.{length, take, drop}
-use Rattle.octets.specs.Places.{pick}
+use Rattle.octets.specs.Places.{pick, both}
 use Rattle.tree.specs.Fields.{allIn, codesIn}
 use Rattle.tree.specs.declared.Field.the-variants.{Standard}
-use Rattle.writer.specs.Minimal.{both}
 use Rattle.choice.specs.Wishes.{Wish, mostWishes, wishesOf, wishCodes}
 use Rattle.choice.specs.declared.Choice.{Choice}
 use Rattle.choice.specs.declared.Choice.the-variants.{Chosen, NoChoice}

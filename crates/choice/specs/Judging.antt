@@ -6,9 +6,8 @@ use Prim.Native.Nat.{ℕ}
 use mathlib.Core.Bool.{Bool, true, false}
 use mathlib.Core.List.{List, [], _∷_, List·Memᴰ}
 use mathlib.Core.Path.{_≡_}
-use Rattle.octets.specs.Places.{pick}
+use Rattle.octets.specs.Places.{pick, both}
 use Rattle.tree.specs.Fields.{allIn, hasSpar}
-use Rattle.writer.specs.Minimal.{both}
 use Rattle.choice.specs.Wishes.{Wish, wishCodes}
 use Rattle.choice.specs.declared.Verdict.{Verdict}
 use Rattle.choice.specs.declared.Verdict.the-variants.{Accepted, NotReady, NoFit}

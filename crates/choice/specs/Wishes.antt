@@ -7,10 +7,9 @@ use mathlib.Core.List.{List, [], _∷_, _++_}
 use lib.Dec.{leb, eqb}
 use lib.ListN.{length, take, drop}
 use Rattle.octets.specs.Bits.{num}
-use Rattle.octets.specs.Places.{pick}
+use Rattle.octets.specs.Places.{pick, both}
 use Rattle.tree.specs.Fields.{codesIn, hasSpar}
 use Rattle.tree.specs.declared.Field.the-variants.{Standard}
-use Rattle.writer.specs.Minimal.{both}
 use Rattle.good.specs.Good.{goodField}
 
 abbrev pub mostWishes : ℕ

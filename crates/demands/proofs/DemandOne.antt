@@ -10,7 +10,7 @@ use Rattle.frame.specs.Writer.{writeFrame}
 use Rattle.exact.proofs.ReaderUnique as frameReading
 use Rattle.exact.proofs.WriterUnique as frameWriting
 use Rattle.message.proofs.Unique as messageReading
-use Rattle.writer.specs.Writer.{writeMessage}
+use Rattle.meaning.specs.Writing.{writeMessage}
 use Rattle.writer.proofs.WriterUnique as messageWriting
 use Rattle.strike.proofs.StrikingUnique.{strike-unique, rewrite-unique, strike-refusal-writes-nothing, rewrite-refusal-writes-nothing}
 use Rattle.tree.specs.Fields.{codesIn}
@@ -24,16 +24,13 @@ use Rattle.station.specs.declared.Event.{Event}
 use Rattle.station.proofs.StepUnique.{step-unique}
 use Rattle.chip.proofs.ChipUnique.{frame-read-unique, frame-write-unique, message-read-unique}
 use Rattle.demands.specs.Given.{Given}
-use Rattle.demands.specs.DemandOne.{OneReply, OneContent, DemandOne}
+use Rattle.demands.specs.DemandOne.{OneReply, DemandOne}
 use Rattle.demands.proofs.StepLines.{refusal-keeps-output, refusal-keeps-store}
 use Rattle.demands.proofs.Trips.{returns-unique}
 
--- a reply, and a reply and a buffer, each fixed by an equation
+-- a reply that is fixed by an equation
 by-equation : {A : Type 0} {x : A} → OneReply (λ r. r ≡ x)
 by-equation r r′ e e′ = unique.one-reply e e′
-
-by-equations : {A : Type 0} {x : A} {b : List ℕ} → OneContent (λ r c. (r ≡ x) × (c ≡ b))
-by-equations r r′ c c′ e e′ = (unique.one-reply (e .0) (e′ .0), unique.one-reply (e .1) (e′ .1))
 
 -- what a call of `step` is given
 abbrev called : Settings → List ℕ → List ℕ → Event → List ℕ → ℕ → List ℕ → List ℕ → Given
@@ -50,27 +47,32 @@ demand-one =
       next-bit = λ r. by-equation;
       moved-on = λ r q q′. unique.one-reader;
       bit-after = λ run at. by-equation;
+      octet-or-zero = λ run i. by-equation;
       octet-at = λ run at. by-equation;
       copy-front = λ from count to. by-equation;
       fcs-of = λ run. by-equation;
       read-frame = λ run count out. frameReading.read-unique (readFrame run count (length out)) out;
       write-frame = λ info opening closing out. frameWriting.write-unique (writeFrame info opening closing (length out)) out;
       bit8 = λ s e. by-equation;
+      mark-last = λ out e. by-equation;
       is-fine = λ form. by-equation;
       field-form = λ s at. by-equation;
+      field-end = λ s at. by-equation;
       base-of = λ field. by-equation;
       has-spar = λ s at. by-equation;
       top-behind = λ s e. by-equation;
       block-behind = λ s e. by-equation;
       group-behind = λ s e. by-equation;
-      fill-codes = λ s at field list. by-equations;
-      fill-octets = λ s at field list. by-equations;
+      fill-fields = λ s i j list octets r r′ list₁ list₁′ octets₁ octets₁′ a b.
+          (unique.one-reply (a .count) (b .count), unique.one-reply (a .list) (b .list), unique.one-reply (a .octets) (b .octets));
       has-first = λ s at field q. by-equation;
       lies-within = λ s i t j field. by-equation;
       is-known = λ kind. by-equation;
+      has-fields = λ kind. by-equation;
       ns-form = λ s start. by-equation;
       check-message = messageReading.check-unique;
       read-message = messageReading.read-unique;
+      read-octets = messageReading.octets-unique;
       ns-part = messageReading.ns-part-unique;
       write-message = λ kind revision list ns out. messageWriting.write-unique (writeMessage kind revision list ns (length out)) out;
       npar-places = λ keep under. by-equation;

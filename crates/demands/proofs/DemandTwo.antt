@@ -4,7 +4,7 @@ use mathlib.Core.Path.{refl, ap}
 use native.Mathlib.Omega.{arith}
 use Rattle.message.proofs.Accepted.{accepted-passed}
 use Rattle.message.proofs.Bench.{positions}
-use Rattle.writer.proofs.RoundTrip as again
+use Rattle.meaning.proofs.RoundTrip as again
 use Rattle.exact.proofs.Exact as exact
 use Rattle.strike.proofs.StrikingForm as struck
 use Rattle.strike.proofs.StrikingMeaning as striking

@@ -18,7 +18,7 @@ use Rattle.good.proofs.Parts.{good-parts}
 use Rattle.choice.specs.Wishes.{Wish, mostWishes, wishesOf, recordsOf, standardCodes, wishCodes, goodWish, goodWishes}
 use Rattle.choice.specs.Tables.{allInside}
 use Rattle.choice.proofs.Tabled.{good-fields, good-fill, records-good, few-wishes, standard-at, inside-each, inside-all}
-use Rattle.choice.proofs.Truths.{both-parts}
+use Rattle.octets.proofs.Laws.{both-true}
 use Rattle.demands.specs.Holding.{MayHold, MayWish}
 
 -- ---- one field
@@ -42,7 +42,7 @@ own-holds t = (
 pub wishes-hold : (run : List ℕ) → (goodWishes run ≡ true) ↔ MayWish run
 wishes-hold run = (
   λ g. let f : (w : Wish) → List·Memᴰ w (wishesOf run) → (goodField (w .field) ≡ true) × (hasSpar (wishCodes w) ≡ true) =
-      λ w m. both-parts (goodField (w .field)) (hasSpar (wishCodes w)) (good-fields mostWishes run g w m) in
+      λ w m. both-true (goodField (w .field)) (hasSpar (wishCodes w)) (good-fields mostWishes run g w m) in
       record { few = few-wishes mostWishes run; filled = good-fill mostWishes run g; field = λ w m. own-holds (w .field) .0 (f w m .0); spar = λ w m. f w m .1 },
   λ h. rw (h .filled) at (records-good mostWishes (wishesOf run) (h .few) (λ w m. rw (own-holds (w .field) .1 (h .field w m)) (h .spar w m)) .0),
 )

@@ -26,16 +26,17 @@ use Rattle.message.specs.Kinds.{known}
 use Rattle.message.specs.Reader.{listRoom, hasNs, tailAt, nsOf, accepted, nsTold}
 use Rattle.message.specs.Reader as messageReader
 use Rattle.message.proofs.Accepted.{success-writes, success-ns}
-use Rattle.writer.specs.Meaning.{allShaped, ascending, allParented}
-use Rattle.writer.specs.Writer.{endsThere, nsAgrees, messageOctets, checkedWriting, listWriting, writeMessage}
+use Rattle.meaning.specs.Meaning.{allShaped, ascending, allParented}
+use Rattle.meaning.specs.Writing.{endsThere, nsAgrees, messageOctets, checkedWriting, listWriting, writeMessage}
+use Rattle.meaning.specs.Writing as writing
 use Rattle.writer.specs.Writer as messageWriter
 use Rattle.writer.specs.declared.MessageWritten.{MessageWritten}
-use Rattle.writer.proofs.RoundTrip.{sent-writable, written-is-read, written-is-octets}
+use Rattle.meaning.proofs.RoundTrip.{sent-writable, written-is-read, written-is-octets}
 use Rattle.demands.specs.Returning.{Tells, FourCalls, ComesBack}
 
 -- ---- over the definitions
 
-module _ (kind revision : ℕ) (list ns : List ℕ) (room : ℕ) (os : List ℕ) (w : writeMessage kind revision list ns room ≡ messageWriter.sent os) where
+module _ (kind revision : ℕ) (list ns : List ℕ) (room : ℕ) (os : List ℕ) (w : writeMessage kind revision list ns room ≡ writing.sent os) where
   -- a message that is written fits a frame, with every legal flag count and in every output with room for a frame
   pub fits-frame : (opening closing outSize : ℕ) → fewestOpening ≤ opening → opening ≤ mostOpening → fewestClosing ≤ closing → closing ≤ mostClosing → frameRoom ≤ outSize
       → writeFrame os opening closing outSize ≡ frameWriter.sent (frame os opening closing)
@@ -77,11 +78,11 @@ frame-never-zero info opening closing room =
     (frame-if (ltb closing fewestClosing) 7 _
     (frame-if (ltb mostClosing closing) 7 _ (λ e. let z : _≡_ {A = ℕ} 0 1 = cc in omega arith)))))))
 
-message-if : (t : Bool) (k : ℕ) (x : messageWriter.Writing) → (x ≡ messageWriter.declined 0 → ⊥) → messageWriter.declinedIf t (suc k) x ≡ messageWriter.declined 0 → ⊥
+message-if : (t : Bool) (k : ℕ) (x : writing.Writing) → (x ≡ writing.declined 0 → ⊥) → writing.declinedIf t (suc k) x ≡ writing.declined 0 → ⊥
 message-if true k x h e = let z : suc k ≡ 0 = cc in omega arith
 message-if false k x h e = h e
 
-pub message-never-zero : (kind revision : ℕ) (list ns : List ℕ) (room : ℕ) → writeMessage kind revision list ns room ≡ messageWriter.declined 0 → ⊥
+pub message-never-zero : (kind revision : ℕ) (list ns : List ℕ) (room : ℕ) → writeMessage kind revision list ns room ≡ writing.declined 0 → ⊥
 unfolding writeMessage listWriting checkedWriting
 message-never-zero kind revision list ns room =
     message-if (ltb room 64) 0 _
@@ -102,12 +103,12 @@ unfolding put
 front-put xs d n e = rw e (take-append-seam xs (drop (length xs) d))
 
 -- where a message was written, its octets are the part that the reply tells
-pub message-left : (x : messageWriter.Writing) (out₀ : List ℕ) (r : MessageWritten) (out₁ : List ℕ) → (x ≡ messageWriter.declined 0 → ⊥) → messageWriter.Writes x out₀ r out₁
+pub message-left : (x : writing.Writing) (out₀ : List ℕ) (r : MessageWritten) (out₁ : List ℕ) → (x ≡ writing.declined 0 → ⊥) → messageWriter.Writes x out₀ r out₁
     → messageWriter.writeTold r .no ≡ 0
-    → (os : List ℕ) × (x ≡ messageWriter.sent os) × (messageWriter.writeTold r .count ≡ length os) × (take (messageWriter.writeTold r .count) out₁ ≡ os)
-message-left (messageWriter.declined k) out₀ r out₁ n a h = absurd (n (ap messageWriter.declined (sym (ap (λ (y : messageWriter.Reply). y .no) (a .reply)) ∙ h)))
-message-left (messageWriter.sent os) out₀ r out₁ n a h =
-    let e = ap (λ (y : messageWriter.Reply). y .count) (a .reply) in
+    → (os : List ℕ) × (x ≡ writing.sent os) × (messageWriter.writeTold r .count ≡ length os) × (take (messageWriter.writeTold r .count) out₁ ≡ os)
+message-left (writing.declined k) out₀ r out₁ n a h = absurd (n (ap writing.declined (sym (ap (λ (y : writing.Reply). y .no) (a .reply)) ∙ h)))
+message-left (writing.sent os) out₀ r out₁ n a h =
+    let e = ap (λ (y : writing.Reply). y .count) (a .reply) in
     (os, refl, e, rw (a .output) (front-put os out₀ (messageWriter.writeTold r .count) e))
 
 -- where a frame was written, the reader given the output and the bit count told looks at that frame
@@ -134,7 +135,7 @@ ns-behind l = go (hasNs l)
 
 module _ {kind revision : ℕ} {list ns : List ℕ} {opening closing : ℕ} (c : FourCalls kind revision list ns opening closing) where
   -- a message was written, and it was framed, found and read
-  comes-back : (os : List ℕ) → writeMessage kind revision list ns (length (c .message₀)) ≡ messageWriter.sent os → messageWriter.writeTold (c .written) .count ≡ length os
+  comes-back : (os : List ℕ) → writeMessage kind revision list ns (length (c .message₀)) ≡ writing.sent os → messageWriter.writeTold (c .written) .count ≡ length os
       → take (messageWriter.writeTold (c .written) .count) (c .message₁) ≡ os → ComesBack c
   comes-back os w n e =
       let room = length (c .bits₀) in

@@ -3,7 +3,7 @@
 use Rattle.exact.proofs.Vectors.{ff-ff}
 use Rattle.tree.proofs.Vectors.{code-of}
 use Rattle.message.proofs.Bench.{positions}
-use Rattle.writer.proofs.Vectors as written
+use Rattle.meaning.proofs.Vectors as written
 use Rattle.strike.proofs.StrikingBench as struck
 use Rattle.demands.specs.PositionsProved.{PositionsProved}
 use Rattle.demands.proofs.StationBench as station

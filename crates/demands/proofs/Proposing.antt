@@ -11,14 +11,15 @@ use Rattle.octets.specs.Bits.{AreOctets}
 use Rattle.tree.specs.Codes.{codeOf, fieldBase}
 use Rattle.tree.specs.Fields.{isIn, allIn}
 use Rattle.message.specs.Reader.{messageCodes}
-use Rattle.writer.specs.Minimal.{both}
+use Rattle.octets.specs.Places.{both}
 use Rattle.good.specs.Good.{goodField}
 use Rattle.choice.specs.Wishes.{Wish, wishesOf, standardCodes, wishCodes}
 use Rattle.choice.specs.Choosing.{Far, unheard, heard, Choosing, chosen, refused, suits, First}
 use Rattle.choice.specs.declared.Pick.{Pick}
 use Rattle.choice.proofs.Chosen.{chosen-first, first-member, no-choice}
 use Rattle.choice.proofs.Tabled.{tables-good}
-use Rattle.choice.proofs.Truths.{never, both-parts, both-false}
+use Rattle.choice.proofs.Truths.{never, both-false}
+use Rattle.octets.proofs.Laws.{both-true}
 use Rattle.table.specs.declared.Phase.{Phase}
 use Rattle.table.specs.declared.Phase.the-variants.{Initial}
 use Rattle.table.specs.declared.Kind.{Kind}
@@ -247,7 +248,7 @@ proposed-own far g s x = tables-good (g .own) (g .run) (s .tables) .inside (x .c
 pub proposed-common : (list : List ℕ) (g : Given) (x : Proposal (heard list) g) → allIn (wishCodes (x .chosen .wish)) list ≡ true
 proposed-common list g x =
     let codes = wishCodes (x .chosen .wish) in
-    both-parts (allIn codes (standardCodes (g .own))) (allIn codes list) (both-parts (x .chosen .wish .ready) _ (x .chosen .suited) .1) .1
+    both-true (allIn codes (standardCodes (g .own))) (allIn codes list) (both-true (x .chosen .wish .ready) _ (x .chosen .suited) .1) .1
 
 -- ---- what the MS says
 
@@ -273,7 +274,7 @@ module _ {eight short ack : Bool} (w : Wish) {ms : List ℕ} (x : IsSent 1 eight
   short-in = ap (isIn (codeOf 1 0 0 2)) (x .read .3) ∙ short-said (wishCodes w) (standard-high (codeOf 1 0 0 2) (w .field) (omega arith)) eight short ack
 
 both-hold : (a b : Bool) → (both a b ≡ true) ↔ ((a ≡ true) × (b ≡ true))
-both-hold a b = (both-parts a b, λ h. rw (h .0) (h .1))
+both-hold a b = (both-true a b, λ h. rw (h .0) (h .1))
 
 not-true : (a : Bool) → (not a ≡ true) ↔ (a ≡ false)
 not-true true = (λ e. never e, λ e. never (sym e))

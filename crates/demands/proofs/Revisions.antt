@@ -12,12 +12,13 @@ use Rattle.tree.specs.Codes.{fieldBase, fieldCodes}
 use Rattle.tree.proofs.Forms.{field-fits}
 use Rattle.message.specs.Kinds.{hasFields, typeOf}
 use Rattle.message.specs.Nonstandard.{nsAnnounced}
-use Rattle.message.specs.Reader.{mostOctets, listRoom, standardAt, tailAt, nsPlace, nsSize, Reading, refused, accepted, readMessage}
+use Rattle.tree.specs.Fields.{mostOctets}
+use Rattle.message.specs.Reader.{listRoom, standardAt, tailAt, nsPlace, nsSize, Reading, refused, accepted, readMessage}
 use Rattle.message.proofs.Accepted.{accepted-passed}
 use Rattle.message.proofs.Checked.{fields-fine}
 use Rattle.message.proofs.Fields.{parts-fine}
 use Rattle.message.proofs.Revision.{same-reading, same-codes, same-ns}
-use Rattle.writer.specs.Writer.{messageOctets}
+use Rattle.meaning.specs.Writing.{messageOctets}
 use Rattle.names.specs.Named.{namedCode}
 use Rattle.names.specs.Masks.{only}
 use Rattle.strike.specs.Striking.{struckCodes, struckForm}

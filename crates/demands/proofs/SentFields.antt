@@ -25,12 +25,12 @@ use Rattle.message.specs.Kinds.{known, typeOf, revisionOf}
 use Rattle.message.specs.Reader.{listRoom, standardAt, messageCodes, accepted, readMessage}
 use Rattle.message.proofs.Accepted.{accepted-passed}
 use Rattle.message.proofs.Room.{codes-in}
-use Rattle.writer.specs.Minimal.{fieldMinimal, messageMinimal}
-use Rattle.writer.specs.Written.{written}
-use Rattle.writer.specs.Writer.{sent, nsAgrees, writeMessage}
-use Rattle.writer.proofs.Growing.{in-either}
-use Rattle.writer.proofs.Meanings.{Meant, meaning-join}
-use Rattle.writer.proofs.RoundTrip.{field-back, writable-sent, written-is-read, written-is-minimal}
+use Rattle.meaning.specs.Minimal.{fieldMinimal, messageMinimal}
+use Rattle.meaning.specs.Written.{written}
+use Rattle.meaning.specs.Writing.{sent, nsAgrees, writeMessage}
+use Rattle.meaning.proofs.Growing.{in-either}
+use Rattle.meaning.proofs.Meanings.{Meant, meaning-join}
+use Rattle.meaning.proofs.RoundTrip.{field-back, writable-sent, written-is-read, written-is-minimal}
 use Rattle.names.specs.Named.{namedCode, keeps}
 use Rattle.names.specs.Masks.{only}
 use Rattle.names.specs.declared.Keep.{Keep}

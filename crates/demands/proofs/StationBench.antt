@@ -10,9 +10,9 @@ use Rattle.tree.specs.Form.{blockForm, subsForm, groupForm, parsForm, restForm,
 use Rattle.tree.specs.Fields.{codesIn, isIn, allIn, hasSpar}
 use Rattle.message.specs.Nonstandard.{nsForm, tailForm}
 use Rattle.message.specs.Reader.{messageForm, messageCodes, readMessage}
-use Rattle.writer.specs.Minimal.{fullAtEnd, tight, subsMinimal, groupMinimal, parsMinimal, fieldMinimal}
-use Rattle.writer.specs.Writer.{messageOctets}
-use Rattle.writer.specs.Written.{blockFrom, run, from, positions, marked, subsWritten, lowerWritten, parWritten, parsWritten, restWritten, written}
+use Rattle.meaning.specs.Minimal.{fullAtEnd, tight, subsMinimal, groupMinimal, parsMinimal, fieldMinimal}
+use Rattle.meaning.specs.Writing.{messageOctets}
+use Rattle.meaning.specs.Written.{blockFrom, run, from, positions, marked, subsWritten, lowerWritten, parWritten, parsWritten, restWritten, written}
 use Rattle.names.specs.Masks.{only}
 use Rattle.names.specs.Named.{rowsUnder, rowAt, rowOf}
 use Rattle.good.specs.Good.{allStandard, goodField}

@@ -13,16 +13,16 @@ use Rattle.octets.specs.Bits.{AreOctets}
 use Rattle.octets.specs.Lay.{put}
 use Rattle.octets.specs.Places.{pick}
 use Rattle.tree.specs.Codes.{codeOf, fieldBase, fieldCodes}
-use Rattle.tree.specs.Fields.{isIn, codesIn}
+use Rattle.tree.specs.Fields.{isIn, codesIn, mostOctets}
 use Rattle.tree.specs.declared.Field.the-variants.{Identification, Standard}
 use Rattle.tree.specs.declared.Form.the-variants.{Fine, Left}
 use Rattle.message.specs.Kinds.{hasFields, typeOf}
-use Rattle.message.specs.Reader.{mostOctets, listRoom, standardAt, messageForm, messageCodes, Reading, refused, accepted, readMessage}
+use Rattle.message.specs.Reader.{listRoom, standardAt, messageForm, messageCodes, Reading, refused, accepted, readMessage}
 use Rattle.message.proofs.Accepted.{accepted-passed, never-zero}
 use Rattle.message.proofs.Room.{codes-in}
-use Rattle.writer.specs.Written.{run, from}
-use Rattle.writer.specs.Writer.{declinedIf, Reply, writeReply, writeLeaves}
-use Rattle.writer.proofs.Meanings.{meaning-join}
+use Rattle.meaning.specs.Written.{run, from}
+use Rattle.meaning.specs.Writing.{declinedIf, Reply, writeReply, writeLeaves}
+use Rattle.meaning.proofs.Meanings.{meaning-join}
 use Rattle.names.specs.Named.{rowsUnder, rowAt, rowOf, namedCode, keeps}
 use Rattle.names.specs.Masks.{only}
 use Rattle.names.specs.declared.Keep.{Keep}

@@ -24,15 +24,17 @@ use Rattle.exact.proofs.Exact.{accepted-is-frame}
 use Rattle.exact.proofs.Exact as frames
 use Rattle.exact.proofs.ReaderUnique as frameReading
 use Rattle.exact.proofs.WriterUnique as frameWriting
-use Rattle.message.specs.Reader.{mostOctets, listRoom, nsPlace, nsSize, nsOf, hasNs, tailAt, readMessage, Reads}
+use Rattle.tree.specs.Fields.{mostOctets}
+use Rattle.message.specs.Reader.{listRoom, nsPlace, nsSize, nsOf, hasNs, tailAt, readMessage, Reads}
 use Rattle.message.specs.declared.MessageRead.{MessageRead}
 use Rattle.message.specs.declared.MessageRead.the-variants.{Read, SmallList}
 use Rattle.message.proofs.Unique.{read-unique}
-use Rattle.writer.specs.Writer.{writeMessage}
+use Rattle.meaning.specs.Writing.{writeMessage}
+use Rattle.meaning.specs.Writing as writing
 use Rattle.writer.specs.Writer as messageWriter
 use Rattle.writer.specs.declared.MessageWritten.{MessageWritten}
 use Rattle.writer.specs.declared.MessageWritten.the-variants as messageWritten
-use Rattle.writer.proofs.RoundTrip.{sent-writable, written-is-read}
+use Rattle.meaning.proofs.RoundTrip.{sent-writable, written-is-read}
 use Rattle.writer.proofs.WriterUnique as messageWriting
 use Rattle.demands.specs.Returning.{ReturnsList}
 use Rattle.demands.specs.Stages.{ReadsBack, FramesBack}
@@ -51,7 +53,7 @@ ns-size l = go (hasNs l) ∙ ap length (ns-behind l)
     go true = sym (length-drop (tailAt l) l)
     go false = refl
 
-module _ (kind revision : ℕ) (list ns : List ℕ) (room : ℕ) (os : List ℕ) (w : writeMessage kind revision list ns room ≡ messageWriter.sent os) where
+module _ (kind revision : ℕ) (list ns : List ℕ) (room : ℕ) (os : List ℕ) (w : writeMessage kind revision list ns room ≡ writing.sent os) where
   -- it reads what was given, and the list is in the lent one
   list-read : (back : List ℕ) → listRoom ≤ length back
       → Reads os back (Read (record { kind = kind; revision = revision; count = length list; ns = record { at = nsPlace os; length = length ns } })) (put list back)
@@ -62,7 +64,7 @@ module _ (kind revision : ℕ) (list ns : List ℕ) (room : ℕ) (os : List ℕ)
 
 -- with too small a list it reads nothing
 none-read : (os back : List ℕ) → length back < listRoom → Reads os back SmallList back
-unfolding readMessage
+unfolding readMessage put
 none-read os back h = record { reply = rw (lt-ltb (length back) listRoom h); list = rw (lt-ltb (length back) listRoom h) }
 
 -- ---- from the frame on
@@ -130,14 +132,14 @@ module _ (kind revision : ℕ) (list ns message₀ : List ℕ) (r : MessageWritt
         small = λ os bs w f l. absurd (never os w);
       }
     where
-      never : (os : List ℕ) → writeMessage kind revision list ns mostOctets ≡ messageWriter.sent os → ⊥
+      never : (os : List ℕ) → writeMessage kind revision list ns mostOctets ≡ writing.sent os → ⊥
       never os w =
           h (length os)
-          (messageWriting.write-unique (messageWriter.sent os) message₀ r (messageWritten.Octets (length os)) message₁ (put os message₀) (rw w at a) (record { reply = refl; output = refl }) .0)
+          (messageWriting.write-unique (writing.sent os) message₀ r (messageWritten.Octets (length os)) message₁ (put os message₀) (rw w at a) (record { reply = refl; output = refl }) .0)
 
   module _ (size : ℕ) (e : r ≡ messageWritten.Octets size) where
     -- where it did not, the octets told of are the message
-    written : (os : List ℕ) × (writeMessage kind revision list ns mostOctets ≡ messageWriter.sent os) × (size ≡ length os) × (take size message₁ ≡ os)
+    written : (os : List ℕ) × (writeMessage kind revision list ns mostOctets ≡ writing.sent os) × (size ≡ length os) × (take size message₁ ≡ os)
     written =
         let b : messageWriter.Writes (writeMessage kind revision list ns mostOctets) message₀ (messageWritten.Octets size) message₁ = rw e at a in
         message-left (writeMessage kind revision list ns mostOctets) message₀ (messageWritten.Octets size) message₁ (message-never-zero kind revision list ns mostOctets) b refl
@@ -155,7 +157,7 @@ module _ (kind revision : ℕ) (list ns message₀ : List ℕ) (r : MessageWritt
           small = λ os bs w f l. came os (here os w .framed bs f) _ _ (none-read os back₀ l);
         }
       where
-        here : (os : List ℕ) → writeMessage kind revision list ns mostOctets ≡ messageWriter.sent os → FramesBack os flags back₀ t back₁
+        here : (os : List ℕ) → writeMessage kind revision list ns mostOctets ≡ writing.sent os → FramesBack os flags back₀ t back₁
         here os w = let v = written .1 in let y = written .3 in let z : size - 0 ≡ size = omega arith in let same : take size message₁ ≡ os = cc in rw (z, same) at x
 
         came : (os : List ℕ) → ReadsBack os back₀ t back₁ → (m : MessageRead) (back : List ℕ) → Reads os back₀ m back → (t ≡ Back m) × (back₁ ≡ back)
@@ -170,16 +172,16 @@ returns-unique kind revision list ns flags back₀ r r′ back₁ back₁′ a b
     one : {t : Trip} {back : List ℕ} → (r ≡ t) × (back₁ ≡ back) → (r′ ≡ t) × (back₁′ ≡ back) → (r ≡ r′) × (back₁ ≡ back₁′)
     one x y = (x .0 ∙ sym (y .0), x .1 ∙ sym (y .1))
 
-    lent : (os : List ℕ) (bs : List Bool) → writeMessage kind revision list ns mostOctets ≡ messageWriter.sent os → writeFrame os (flags .opening) (flags .closing) frameRoom ≡ frameWriter.sent bs
+    lent : (os : List ℕ) (bs : List Bool) → writeMessage kind revision list ns mostOctets ≡ writing.sent os → writeFrame os (flags .opening) (flags .closing) frameRoom ≡ frameWriter.sent bs
         → Dec (length back₀ < listRoom) → (r ≡ r′) × (back₁ ≡ back₁′)
     lent os bs w f (yes l) = one (a .small os bs w f l) (b .small os bs w f l)
     lent os bs w f (no l) = one (a .returned os bs w f (omega arith)) (b .returned os bs w f (omega arith))
 
-    framing : (os : List ℕ) → writeMessage kind revision list ns mostOctets ≡ messageWriter.sent os → (x : frameWriter.Writing) → writeFrame os (flags .opening) (flags .closing) frameRoom ≡ x
+    framing : (os : List ℕ) → writeMessage kind revision list ns mostOctets ≡ writing.sent os → (x : frameWriter.Writing) → writeFrame os (flags .opening) (flags .closing) frameRoom ≡ x
         → (r ≡ r′) × (back₁ ≡ back₁′)
     framing os w (frameWriter.declined k) f = one (a .unframed os k w f) (b .unframed os k w f)
     framing os w (frameWriter.sent bs) f = lent os bs w f (decLt (length back₀) listRoom)
 
-    message : (x : messageWriter.Writing) → writeMessage kind revision list ns mostOctets ≡ x → (r ≡ r′) × (back₁ ≡ back₁′)
-    message (messageWriter.declined k) w = one (a .unwritten k w) (b .unwritten k w)
-    message (messageWriter.sent os) w = framing os w (writeFrame os (flags .opening) (flags .closing) frameRoom) refl
+    message : (x : writing.Writing) → writeMessage kind revision list ns mostOctets ≡ x → (r ≡ r′) × (back₁ ≡ back₁′)
+    message (writing.declined k) w = one (a .unwritten k w) (b .unwritten k w)
+    message (writing.sent os) w = framing os w (writeFrame os (flags .opening) (flags .closing) frameRoom) refl

@@ -21,10 +21,10 @@ use Rattle.message.proofs.Accepted.{Passed, accepted-passed}
 use Rattle.message.proofs.Checked.{fields-fine}
 use Rattle.message.proofs.Fields.{parts-fine}
 use Rattle.message.proofs.Reading.{form-fields, codes-fields}
-use Rattle.writer.specs.Written.{written}
-use Rattle.writer.specs.Writer.{nsAgrees}
-use Rattle.writer.proofs.Announcing.{field-seven, tail-agrees}
-use Rattle.writer.proofs.RoundTrip.{readable-accepted, field-back}
+use Rattle.meaning.specs.Written.{written}
+use Rattle.meaning.specs.Writing.{nsAgrees}
+use Rattle.meaning.proofs.Announcing.{field-seven, tail-agrees}
+use Rattle.meaning.proofs.RoundTrip.{readable-accepted, field-back}
 use Rattle.names.specs.Named.{namedCode}
 use Rattle.names.specs.Masks.{only}
 use Rattle.names.specs.declared.Keep.the-variants.{Named}

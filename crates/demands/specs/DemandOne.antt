@@ -7,7 +7,7 @@ use mathlib.Core.Bool.{Bool}
 use mathlib.Core.List.{List, []}
 use mathlib.Core.Path.{_≡_}
 use denote.Ref.{RefT}
-use Rattle.octets.specs.Contracts.{TellsBit, TellsOne, TellsPlaceAfter, IsReader, TellsNextBit, IsMovedOn, TellsBitAfter, TellsOctet, CopiesFront}
+use Rattle.octets.specs.Contracts.{TellsBit, TellsOne, TellsPlaceAfter, IsReader, TellsNextBit, IsMovedOn, TellsBitAfter, TellsOctetOrZero, TellsOctet, CopiesFront}
 use Rattle.octets.specs.declared.Bit.{Bit}
 use Rattle.octets.specs.declared.BitReader.{BitReader}
 use Rattle.fcs.specs.Contracts.{TellsFcs}
@@ -16,16 +16,17 @@ use Rattle.frame.specs.Reader as frameReader
 use Rattle.frame.specs.Writer as frameWriter
 use Rattle.frame.specs.declared.FrameRead.{FrameRead}
 use Rattle.frame.specs.declared.FrameWritten.{FrameWritten}
-use Rattle.tree.specs.Contracts.{TellsBit8, TellsFine, TellsForm, TellsBase, TellsSpar, TellsTopBehind, TellsBlockBehind, TellsGroupBehind}
+use Rattle.tree.specs.Contracts.{TellsBit8, MarksLast, TellsFine, TellsForm, TellsEnd, TellsBase, TellsSpar, TellsTopBehind, TellsBlockBehind, TellsGroupBehind}
 use Rattle.tree.specs.declared.Field.{Field}
 use Rattle.tree.specs.declared.Form.{Form}
-use Rattle.fill.specs.Contracts.{FillsCodes, FillsOctets}
+use Rattle.fill.specs.Contracts.{FillsFields}
 use Rattle.within.specs.Contracts.{TellsFirst, TellsWithin}
-use Rattle.message.specs.Contracts.{TellsKnown, TellsNsForm, Checks, TellsNs}
+use Rattle.message.specs.Contracts.{TellsKnown, TellsFields, TellsNsForm, Checks, TellsNs}
 use Rattle.message.specs.Reader.{nsTold}
 use Rattle.message.specs.Reader as messageReader
 use Rattle.message.specs.declared.MessageRead.{MessageRead}
 use Rattle.writer.specs.Contracts.{MessageWrites}
+use Rattle.meaning.specs.Writing as writing
 use Rattle.writer.specs.Writer as messageWriter
 use Rattle.writer.specs.declared.MessageWritten.{MessageWritten}
 use Rattle.names.specs.Contracts.{TellsNparPlaces, TellsSparPlaces}
@@ -67,6 +68,7 @@ pub record DemandOne : Type 0 where
   pub next-bit : (r : BitReader) → OneReply (TellsNextBit r)
   pub moved-on : (r : BitReader) → OneReply (IsMovedOn r)
   pub bit-after : (run : List ℕ) (at : ℕ) → OneReply (TellsBitAfter run at)
+  pub octet-or-zero : (run : List ℕ) (i : ℕ) → OneReply (TellsOctetOrZero run i)
   pub octet-at : (run : List ℕ) (at : ℕ) → OneReply (TellsOctet run at)
   -- it replies nothing, and leaves one content
   pub copy-front : (from : List ℕ) (count : ℕ) (to : List ℕ) → OneReply (CopiesFront from count to)
@@ -76,22 +78,29 @@ pub record DemandOne : Type 0 where
   pub write-frame : (info : List ℕ) (opening closing : ℕ) (out : List ℕ) → OneContent (FrameWrites info opening closing out)
   -- One field
   pub bit8 : (s : List ℕ) (e : ℕ) → OneReply (TellsBit8 s e)
+  -- it replies nothing, and leaves one content
+  pub mark-last : (out : List ℕ) (e : ℕ) → OneReply (MarksLast out e)
   pub is-fine : (form : Form) → OneReply (TellsFine form)
   pub field-form : (s : List ℕ) (at : ℕ) → OneReply (TellsForm s at)
+  pub field-end : (s : List ℕ) (at : ℕ) → OneReply (TellsEnd s at)
   pub base-of : (field : Field) → OneReply (TellsBase field)
   pub has-spar : (s : List ℕ) (at : ℕ) → OneReply (TellsSpar s at)
   pub top-behind : (s : List ℕ) (e : ℕ) → OneReply (TellsTopBehind s e)
   pub block-behind : (s : List ℕ) (e : ℕ) → OneReply (TellsBlockBehind s e)
   pub group-behind : (s : List ℕ) (e : ℕ) → OneReply (TellsGroupBehind s e)
-  pub fill-codes : (s : List ℕ) (at : ℕ) (field : Field) (list : List ℕ) → OneContent (FillsCodes s at field list)
-  pub fill-octets : (s : List ℕ) (at : ℕ) (field : Field) (list : List ℕ) → OneContent (FillsOctets s at field list)
+  -- one reply, and one content of either list
+  pub fill-fields : (s : List ℕ) (i j : ℕ) (list octets : List ℕ) (r r′ : ℕ) (list₁ list₁′ octets₁ octets₁′ : List ℕ)
+      → FillsFields s i j list octets r list₁ octets₁ → FillsFields s i j list octets r′ list₁′ octets₁′
+      → (r ≡ r′) × (list₁ ≡ list₁′) × (octets₁ ≡ octets₁′)
   pub has-first : (s : List ℕ) (at : ℕ) (field : Field) (q : ℕ) → OneReply (TellsFirst s at field q)
   pub lies-within : (s : List ℕ) (i : ℕ) (t : List ℕ) (j : ℕ) (field : Field) → OneReply (TellsWithin s i t j field)
   -- Messages
   pub is-known : (kind : ℕ) → OneReply (TellsKnown kind)
+  pub has-fields : (kind : ℕ) → OneReply (TellsFields kind)
   pub ns-form : (s : List ℕ) (start : ℕ) → OneReply (TellsNsForm s start)
   pub check-message : (message : List ℕ) → OneReply (Checks message)
   pub read-message : (message list : List ℕ) → OneContent (messageReader.Reads message list)
+  pub read-octets : (message list : List ℕ) → OneContent (messageReader.ReadsOctets message list)
   -- one NS, by its octets
   pub ns-part : (message : List ℕ) (answer : MessageRead) → OneReply (TellsNs message answer)
   pub write-message : (kind revision : ℕ) (list ns out : List ℕ) → OneContent (MessageWrites kind revision list ns out)

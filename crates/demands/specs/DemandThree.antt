@@ -13,7 +13,7 @@ use Rattle.tree.specs.Codes.{fieldBase, fieldCodes}
 use Rattle.tree.specs.Fields.{isIn}
 use Rattle.message.specs.Kinds.{hasFields, typeOf, revisionOf}
 use Rattle.message.specs.Reader.{standardAt, messageCodes, nsPlace, nsSize, nsOf, accepted, readMessage}
-use Rattle.writer.specs.Minimal.{messageMinimal}
+use Rattle.meaning.specs.Minimal.{messageMinimal}
 use Rattle.names.specs.Named.{namedCode}
 use Rattle.names.specs.Masks.{only}
 use Rattle.strike.specs.Striking.{struckForm, struckTold, Strikes}

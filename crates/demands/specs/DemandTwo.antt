@@ -19,9 +19,9 @@ use Rattle.tree.specs.Fields.{isIn, allIn}
 use Rattle.tree.specs.declared.Form.the-variants.{Fine}
 use Rattle.message.specs.Kinds.{known, typeOf, revisionOf}
 use Rattle.message.specs.Reader.{standardAt, messageForm, messageCodes, nsOf, accepted, readMessage}
-use Rattle.writer.specs.Meaning.{allShaped, ascending, allParented}
-use Rattle.writer.specs.Minimal.{messageMinimal}
-use Rattle.writer.specs.Writer.{sent, writeMessage, Writable}
+use Rattle.meaning.specs.Meaning.{allShaped, ascending, allParented}
+use Rattle.meaning.specs.Minimal.{messageMinimal}
+use Rattle.meaning.specs.Writing.{sent, writeMessage, Writable}
 use Rattle.names.specs.Masks.{only}
 use Rattle.names.specs.Named.{namedCode}
 use Rattle.good.specs.Good.{goodField}

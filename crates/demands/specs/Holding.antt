@@ -9,7 +9,7 @@ use Rattle.tree.specs.Codes.{fieldBase, fieldCodes, fieldBehind}
 use Rattle.tree.specs.Fields.{isIn, hasSpar}
 use Rattle.tree.specs.Form.{fieldForm}
 use Rattle.tree.specs.declared.Form.the-variants.{Fine}
-use Rattle.writer.specs.Minimal.{fieldMinimal}
+use Rattle.meaning.specs.Minimal.{fieldMinimal}
 use Rattle.names.specs.Named.{standardCode}
 use Rattle.choice.specs.Wishes.{Wish, wishesOf, recordsOf, wishCodes}
 

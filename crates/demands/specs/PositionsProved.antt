@@ -10,7 +10,7 @@ use Rattle.frame.specs.Stuffing.{stuffed}
 use Rattle.tree.specs.Codes.{codeOf}
 use Rattle.message.specs.Kinds.{typeOf, revisionOf}
 use Rattle.message.specs.Reader.{messageCodes, nsOf, refused, accepted, readMessage}
-use Rattle.writer.specs.Writer.{sent, writeMessage}
+use Rattle.meaning.specs.Writing.{sent, writeMessage}
 use Rattle.strike.specs.Striking.{strikeMessage}
 use Rattle.table.specs.declared.OnCrD.the-variants.{WithCl}
 use Rattle.table.specs.declared.OnCrE.the-variants.{AsOnCrD}

@@ -16,11 +16,13 @@ use Rattle.frame.specs.Writer as frameWriter
 use Rattle.frame.specs.declared.FrameRead.{FrameRead}
 use Rattle.frame.specs.declared.FrameWritten.{FrameWritten}
 use Rattle.message.specs.Kinds.{typeOf, revisionOf}
-use Rattle.message.specs.Reader.{mostOctets, listRoom, messageCodes, nsPlace, nsOf, accepted, readMessage, nsTold}
+use Rattle.tree.specs.Fields.{mostOctets}
+use Rattle.message.specs.Reader.{listRoom, messageCodes, nsPlace, nsOf, accepted, readMessage, nsTold}
 use Rattle.message.specs.Reader as messageReader
 use Rattle.message.specs.declared.MessageRead.{MessageRead}
 use Rattle.message.specs.declared.MessageRead.the-variants.{Read, SmallList}
-use Rattle.writer.specs.Writer.{writeMessage}
+use Rattle.meaning.specs.Writing.{writeMessage}
+use Rattle.meaning.specs.Writing as writing
 use Rattle.writer.specs.Writer as messageWriter
 use Rattle.writer.specs.declared.MessageWritten.{MessageWritten}
 use Rattle.demands.specs.declared.Flags.{Flags}
@@ -75,16 +77,16 @@ pub record ComesBack {kind revision : ℕ} {list ns : List ℕ} {opening closing
 -- There and back, in one function: the reply r and the list back₁ that the lent list back₀ becomes
 pub record ReturnsList (kind revision : ℕ) (list ns : List ℕ) (flags : Flags) (back₀ : List ℕ) (r : Trip) (back₁ : List ℕ) : Type 0 where
   -- where no message is written, the lent list stays as it was
-  pub unwritten : (no : ℕ) → writeMessage kind revision list ns mostOctets ≡ messageWriter.declined no → (r ≡ Unwritten) × (back₁ ≡ back₀)
+  pub unwritten : (no : ℕ) → writeMessage kind revision list ns mostOctets ≡ writing.declined no → (r ≡ Unwritten) × (back₁ ≡ back₀)
   -- and so it does where the message gets no frame
-  pub unframed : (os : List ℕ) (no : ℕ) → writeMessage kind revision list ns mostOctets ≡ messageWriter.sent os
+  pub unframed : (os : List ℕ) (no : ℕ) → writeMessage kind revision list ns mostOctets ≡ writing.sent os
       → writeFrame os (flags .opening) (flags .closing) frameRoom ≡ frameWriter.declined no → (r ≡ Unframed) × (back₁ ≡ back₀)
   -- otherwise what was given is what was read, and the list that was given stands at the front of the lent one
-  pub returned : (os : List ℕ) (bits : List Bool) → writeMessage kind revision list ns mostOctets ≡ messageWriter.sent os
+  pub returned : (os : List ℕ) (bits : List Bool) → writeMessage kind revision list ns mostOctets ≡ writing.sent os
       → writeFrame os (flags .opening) (flags .closing) frameRoom ≡ frameWriter.sent bits → listRoom ≤ length back₀
       → (r ≡ Back (Read (record { kind = kind; revision = revision; count = length list; ns = record { at = nsPlace os; length = length ns } })))
       × (back₁ ≡ put list back₀)
   -- unless that is too small
-  pub small : (os : List ℕ) (bits : List Bool) → writeMessage kind revision list ns mostOctets ≡ messageWriter.sent os
+  pub small : (os : List ℕ) (bits : List Bool) → writeMessage kind revision list ns mostOctets ≡ writing.sent os
       → writeFrame os (flags .opening) (flags .closing) frameRoom ≡ frameWriter.sent bits → length back₀ < listRoom
       → (r ≡ Back SmallList) × (back₁ ≡ back₀)

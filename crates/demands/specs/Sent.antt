@@ -10,7 +10,8 @@ use Rattle.tree.specs.Fields.{isIn}
 use Rattle.tree.specs.Form.{fieldForm}
 use Rattle.tree.specs.declared.Form.the-variants.{Fine}
 use Rattle.message.specs.Reader.{messageCodes}
-use Rattle.writer.specs.Minimal.{both, fieldMinimal, messageMinimal}
+use Rattle.octets.specs.Places.{both}
+use Rattle.meaning.specs.Minimal.{fieldMinimal, messageMinimal}
 use Rattle.names.specs.Named.{namedCode}
 use Rattle.names.specs.Masks.{only}
 use Rattle.choice.specs.Wishes.{Wish, standardCodes, wishCodes}

@@ -5,7 +5,7 @@ use mathlib.Core.List.{List, _++_}
 use lib.ListN.{take, drop}
 use Rattle.tree.specs.Codes.{fieldBase, fieldCodes}
 use Rattle.message.specs.Reader.{standardAt}
-use Rattle.writer.specs.Written.{written}
+use Rattle.meaning.specs.Written.{written}
 use Rattle.names.specs.Named.{namedCode}
 use Rattle.names.specs.Masks.{only}
 

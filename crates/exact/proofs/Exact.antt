@@ -14,12 +14,12 @@ use lib.ListN.{length, take, drop, length-append, take-append-drop, drop-of-leng
 use lib.Seq.{take-at, drop-at, length-take-le, take-append-le}
 use Rattle.octets.specs.Bits.{bits, pack, packed, AreOctets}
 use Rattle.octets.specs.Lay.{put}
-use Rattle.octets.specs.Places.{pick}
+use Rattle.octets.specs.Places.{pick, both}
 use Rattle.octets.proofs.Laws.{length-bits, bits-append}
 use Rattle.octets.proofs.Packing.{pack-octets, packed-bits, take-bits-pack, bits-pack, length-packed}
 use Rattle.fcs.specs.Division.{fcs}
 use Rattle.frame.specs.Limits.{mostInformation, mostBits, informationRoom, frameRoom, fewestOpening, mostOpening, fewestClosing, mostClosing, fewestContent, mostContent}
-use Rattle.frame.specs.Stuffing.{flag, both, starts, stuffed, Parts, unparted, parted, cutHere, contentFrom}
+use Rattle.frame.specs.Stuffing.{flag, starts, stuffed, Parts, unparted, parted, cutHere, contentFrom}
 use Rattle.frame.specs.Frame.{flags, content, frame, flagsAt, closed, opened, framed}
 use Rattle.frame.specs.Reader.{Reading, refused, information, refusedIf, same, ahead, check, checked, alone, readFrame}
 use Rattle.frame.specs.Writer.{Writing, sent, declinedIf, writeFrame}

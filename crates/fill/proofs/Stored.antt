@@ -13,7 +13,7 @@ use Rattle.fill.specs.declared.Tally.{Tally}
 use Rattle.tree.proofs.Filling.{sets-append, sets-out, sets-over}
 
 -- four octets to a code
-fours-length : (cs : List ℕ) → length (fours cs) ≡ 4 * length cs
+pub fours-length : (cs : List ℕ) → length (fours cs) ≡ 4 * length cs
 unfolding fours
 fours-length [] = refl
 fours-length (c ∷ cs) = omega (arith, fours-length cs)
@@ -77,12 +77,9 @@ module _ {a : List ℕ} {e : ℕ} {list₀ octets₀ : List ℕ} {n : ℕ} {list
   fills-behind f y = stores-fills (x .stores) (rw (x .at) at y)
 
 -- what is stored from the front of the lists is laid over them
-module _ {cs ds list₀ octets₀ list₁ octets₁ : List ℕ} {r : ℕ} (x : Stores cs list₀ octets₀ 0 list₁ octets₁ r) (e : cs ≡ ds) where
-  front : r ≡ length ds
-  front = rw (← e) (omega (arith, x .count))
+module _ {cs list₀ octets₀ list₁ octets₁ : List ℕ} {r : ℕ} (x : Stores cs list₀ octets₀ 0 list₁ octets₁ r) where
+  pub front-list : list₁ ≡ over cs list₀
+  front-list = x .list ∙ sets-over cs list₀
 
-  pub front-list : (r ≡ length ds) × (list₁ ≡ over ds list₀)
-  front-list = (front, rw (← e) (x .list ∙ sets-over cs list₀))
-
-  pub front-octets : (r ≡ length ds) × (octets₁ ≡ over (fours ds) octets₀)
-  front-octets = (front, rw (← e) (x .octets ∙ sets-over (fours cs) octets₀))
+  pub front-octets : octets₁ ≡ over (fours cs) octets₀
+  front-octets = x .octets ∙ sets-over (fours cs) octets₀

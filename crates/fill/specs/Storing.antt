@@ -8,6 +8,13 @@ use lib.Seq.{sets}
 use Rattle.tree.specs.Fields.{fours}
 use Rattle.fill.specs.declared.Tally.{Tally}
 
+-- the codes that a field among the 64 octets of a message can give, 7 to an octet, and those of two fields
+abbrev pub mostOfField : ℕ
+mostOfField = 448
+
+abbrev pub mostCodes : ℕ
+mostCodes = 2 * mostOfField
+
 -- the codes cs are stored behind the n before, in each list where there is room, and r are stored now
 pub record Stores (cs list₀ octets₀ : List ℕ) (n : ℕ) (list₁ octets₁ : List ℕ) (r : ℕ) : Type 0 where
   pub count : r ≡ n + length cs

@@ -1,22 +1,22 @@
 // The codes of a field (RULES, Parameter codes), stored in a list of numbers or of octets by loops over its blocks.
-ghost use Prim.Native.Nat.{_+_, _*_, _/_, _^_, _≤_, _<_};
+ghost use Prim.Native.Nat.{_+_, _*_, _/_, _%_, _^_, _≤_, _<_};
 ghost use Rattle.tree.specs.Block.{setBits, behind, numbers};
-ghost use Rattle.tree.specs.Codes.{subCodes, subsBehind, groupCodes, groupBehind, parCodes, parsBehind, fieldCodes};
+ghost use Rattle.tree.specs.Codes.{ofT, ofS, fieldBase, subCodes, subsBehind, groupCodes, groupBehind, parCodes, parsBehind, fieldCodes};
 ghost use Rattle.tree.specs.Fields.{fours};
 ghost use lib.ListN.{length, set};
 ghost use lib.Seq.{sets};
 ghost use mathlib.Core.List.{[], _∷_, _++_};
 ghost use mathlib.Core.Path.{_≡_};
-ghost use Rattle.fill.specs.Storing.{Stores, Fills};
-ghost use Rattle.fill.specs.Contracts.{FillsCodes, FillsOctets};
-use tree::Field;
-use tree::base_of;
+ghost use Rattle.fill.specs.Storing.{mostOfField, mostCodes, Stores, Fills};
+ghost use Rattle.fill.specs.Contracts.{FillsFields};
+use tree::IDENTIFICATION;
+use tree::MOST_OCTETS;
+use tree::OF_S;
+use tree::OF_T;
+use tree::STANDARD;
 use tree::bit8;
 use tree::block_behind;
 use tree::top_behind;
-
-// The octets of the longest message.
-const MOST_OCTETS: usize = 64;
 
 // How many codes are stored, and how far reading has come.
 pub struct Tally {
@@ -24,18 +24,18 @@ pub struct Tally {
     pub at: usize,
 }
 
-// Stores an octet at a place, where there is room for it.
-fn put_octet(list: &mut [u8], i: usize, o: u8)
-    ensures { λ _. ⌜ now (list .exit) ≡ set (now (list .entry)) i o ⌝ }
+// Stores the lowest octet of a number at a place, where there is room for it.
+fn put_octet(list: &mut [u8], i: usize, number: u32)
+    ensures { λ _. ⌜ now (list .exit) ≡ set (now (list .entry)) i (number % 256) ⌝ }
 {
     if i < list.len() {
-        list[i] = o;
+        list[i] = (number % 256) as u8;
     }
 }
 
 // Stores a number as four octets, lowest first, as many as there is room for.
 fn put_four(list: &mut [u8], i: usize, c: u32)
-    requires { ⌜ i ≤ 4000000 ⌝ }
+    requires { ⌜ i ≤ 4 * mostCodes ⌝ }
     ensures { λ _. ⌜ now (list .exit) ≡ sets (now (list .entry)) i (fours (c ∷ [])) ⌝ }
 {
     if i + 4 <= list.len() {
@@ -45,22 +45,22 @@ fn put_four(list: &mut [u8], i: usize, c: u32)
         list[i + 3] = (c / 16777216 % 256) as u8;
         return;
     }
-    put_octet(list, i, (c % 256) as u8);
-    put_octet(list, i + 1, (c / 256 % 256) as u8);
-    put_octet(list, i + 2, (c / 65536 % 256) as u8);
-    put_octet(list, i + 3, (c / 16777216 % 256) as u8);
+    put_octet(list, i, c);
+    put_octet(list, i + 1, c / 256);
+    put_octet(list, i + 2, c / 65536);
+    put_octet(list, i + 3, c / 16777216);
 }
 
 // Stores the codes of the positions that are set in an octet, above a number, behind the n stored before, where there is room.
-fn fill_numbers(octet: u8, w: u32, above: u32, list: &mut [u32], n: usize) -> usize
-    requires { ⌜ (octet < 2 ^ w) × (w ≤ 7) × (above ≤ 1000000000) × (n ≤ 999000) ⌝ }
-    ensures { λ r. ⌜ (r ≡ n + length (setBits w above octet)) × (now (list .exit) ≡ sets (now (list .entry)) n (setBits w above octet)) ⌝ }
+fn fill_numbers(octet: u8, above: u32, list: &mut [u32], n: usize) -> usize
+    requires { ⌜ (octet < 128) × (above ≤ fieldBase 4) × (n + length (setBits 7 above octet) ≤ mostCodes) ⌝ }
+    ensures { λ r. ⌜ (r ≡ n + length (setBits 7 above octet)) × (now (list .exit) ≡ sets (now (list .entry)) n (setBits 7 above octet)) ⌝ }
 {
-    let mut bits = octet;
+    let mut bits = octet as u32;
     let mut code = above;
     let mut count = n;
     while bits != 0 {
-        let passed = u8::trailing_zeros(bits);
+        let passed = u32::trailing_zeros(bits);
         bits = bits >> passed >> 1;
         code += passed + 1;
         if count < list.len() {
@@ -72,15 +72,15 @@ fn fill_numbers(octet: u8, w: u32, above: u32, list: &mut [u32], n: usize) -> us
 }
 
 // The same, each code as four octets.
-fn fill_fours(octet: u8, w: u32, above: u32, list: &mut [u8], n: usize) -> usize
-    requires { ⌜ (octet < 2 ^ w) × (w ≤ 7) × (above ≤ 1000000000) × (n ≤ 999000) ⌝ }
-    ensures { λ r. ⌜ (r ≡ n + length (setBits w above octet)) × (now (list .exit) ≡ sets (now (list .entry)) (4 * n) (fours (setBits w above octet))) ⌝ }
+fn fill_fours(octet: u8, above: u32, list: &mut [u8], n: usize) -> usize
+    requires { ⌜ (octet < 128) × (above ≤ fieldBase 4) × (n + length (setBits 7 above octet) ≤ mostCodes) ⌝ }
+    ensures { λ r. ⌜ (r ≡ n + length (setBits 7 above octet)) × (now (list .exit) ≡ sets (now (list .entry)) (4 * n) (fours (setBits 7 above octet))) ⌝ }
 {
-    let mut bits = octet;
+    let mut bits = octet as u32;
     let mut code = above;
     let mut count = n;
     while bits != 0 {
-        let passed = u8::trailing_zeros(bits);
+        let passed = u32::trailing_zeros(bits);
         bits = bits >> passed >> 1;
         code += passed + 1;
         put_four(list, 4 * count, code);
@@ -90,52 +90,32 @@ fn fill_fours(octet: u8, w: u32, above: u32, list: &mut [u8], n: usize) -> usize
 }
 
 // The same into both lists: the caller lends an empty one for the form that it does not want.
-fn fill_bits(octet: u8, w: u32, above: u32, list: &mut [u32], octets: &mut [u8], n: usize) -> usize
-    requires { ⌜ (octet < 2 ^ w) × (w ≤ 7) × (above ≤ 1000000000) × (n ≤ 999000) ⌝ }
-    ensures { λ r. ⌜ Stores (setBits w above octet) (now (list .entry)) (now (octets .entry)) n (now (list .exit)) (now (octets .exit)) r ⌝ }
+fn fill_bits(octet: u8, above: u32, list: &mut [u32], octets: &mut [u8], n: usize) -> usize
+    requires { ⌜ (octet < 128) × (above ≤ fieldBase 4) × (n + length (setBits 7 above octet) ≤ mostCodes) ⌝ }
+    ensures { λ r. ⌜ Stores (setBits 7 above octet) (now (list .entry)) (now (octets .entry)) n (now (list .exit)) (now (octets .exit)) r ⌝ }
 {
     if octets.len() == 0 {
-        return fill_numbers(octet, w, above, list, n);
+        return fill_numbers(octet, above, list, n);
     }
     if n < list.len() {
-        fill_numbers(octet, w, above, list, n);
+        fill_numbers(octet, above, list, n);
     }
-    fill_fours(octet, w, above, octets, n)
-}
-
-// Stores one code in both lists.
-fn fill_one(code: u32, list: &mut [u32], octets: &mut [u8], n: usize) -> usize
-    requires { ⌜ n ≤ 999000 ⌝ }
-    ensures { λ r. ⌜ Stores (code ∷ []) (now (list .entry)) (now (octets .entry)) n (now (list .exit)) (now (octets .exit)) r ⌝ }
-{
-    if n < list.len() {
-        list[n] = code;
-    }
-    put_four(octets, 4 * n, code);
-    n + 1
+    fill_fours(octet, above, octets, n)
 }
 
 // Stores the codes of the block at a place, above a number.
-fn fill_block(
-    s: &[u8],
-    e: usize,
-    w: u32,
-    m: u8,
-    p: u32,
-    list: &mut [u32],
-    octets: &mut [u8],
-    n: usize,
-) -> Tally
-    requires { ⌜ (m ≡ 2 ^ w) × (w ≤ 7) × (length (now s) ≤ 64) × (p ≤ 900000000) × (n + length (numbers w m p (now s) e) ≤ 900000) ⌝ }
-    ensures { λ r. ⌜ Fills (numbers w m p (now (s .entry)) e) (behind m (now (s .entry)) e) (now (list .entry)) (now (octets .entry)) n (now (list .exit)) (now (octets .exit)) r ⌝ }
+fn fill_block(s: &[u8], w: u32, p: u32, list: &mut [u32], octets: &mut [u8], start: Tally) -> Tally
+    requires { ⌜ (w ≤ 7) × (length (now s) ≤ 64) × (p ≤ fieldBase 3) × (start .count + length (numbers w (2 ^ w) p (now s) (start .at)) ≤ mostCodes) ⌝ }
+    ensures { λ r. ⌜ Fills (numbers w (2 ^ w) p (now (s .entry)) (start .at)) (behind (2 ^ w) (now (s .entry)) (start .at)) (now (list .entry)) (now (octets .entry)) (start .count) (now (list .exit)) (now (octets .exit)) r ⌝ }
 {
-    let mut count = n;
+    let m = 1u8 << w;
+    let mut count = start.count;
     let mut above = p;
-    let mut i = e;
+    let mut i = start.at;
     while i < s.len() {
         let o = s[i];
         i += 1;
-        count = fill_bits(o % m, w, above, list, octets, count);
+        count = fill_bits(o % m, above, list, octets, count);
         if m <= o {
             return Tally { count, at: i };
         }
@@ -144,48 +124,55 @@ fn fill_block(
     Tally { count, at: i }
 }
 
-// Stores the SPar(2) under a code whose positions are set in an octet, above a number, each with the NPar(3) block that follows.
+// Stores a code, which is not 0, and the NPar block below level 1 at the tally's place, above that code.
+fn fill_unit(s: &[u8], code: u32, list: &mut [u32], octets: &mut [u8], start: Tally) -> Tally
+    requires { ⌜ (length (now s) ≤ 64) × (0 < code) × (code ≤ fieldBase 3) × (start .count + length (code ∷ numbers 6 64 code (now s) (start .at)) ≤ mostCodes) ⌝ }
+    ensures { λ r. ⌜ Fills (code ∷ numbers 6 64 code (now (s .entry)) (start .at)) (behind 64 (now (s .entry)) (start .at)) (now (list .entry)) (now (octets .entry)) (start .count) (now (list .exit)) (now (octets .exit)) r ⌝ }
+{
+    let at = start.at;
+    let count = fill_bits(1, code - 1, list, octets, start.count);
+    fill_block(s, 6, code, list, octets, Tally { count, at })
+}
+
+// Stores the SPar(2) above a code whose positions are set in an octet, each with the NPar(3) block that follows.
 fn fill_subs_of(
     s: &[u8],
     octet: u8,
-    above: u32,
     c: u32,
     list: &mut [u32],
     octets: &mut [u8],
     start: Tally,
 ) -> Tally
-    requires { ⌜ (octet < 64) × (length (now s) ≤ 64) × (c ≤ 500000000) × (above ≤ 448) × (start .count + length (subCodes c (setBits 6 above octet) (now s) (start .at)) ≤ 900000) ⌝ }
-    ensures { λ r. ⌜ Fills (subCodes c (setBits 6 above octet) (now (s .entry)) (start .at)) (subsBehind (length (setBits 6 above octet)) (now (s .entry)) (start .at)) (now (list .entry)) (now (octets .entry)) (start .count) (now (list .exit)) (now (octets .exit)) r ⌝ }
+    requires { ⌜ (octet < 128) × (length (now s) ≤ 64) × (c + 7 * ofT ≤ fieldBase 3) × (start .count + length (subCodes c (setBits 7 0 octet) (now s) (start .at)) ≤ mostCodes) ⌝ }
+    ensures { λ r. ⌜ Fills (subCodes c (setBits 7 0 octet) (now (s .entry)) (start .at)) (subsBehind (length (setBits 7 0 octet)) (now (s .entry)) (start .at)) (now (list .entry)) (now (octets .entry)) (start .count) (now (list .exit)) (now (octets .exit)) r ⌝ }
 {
-    let mut bits = octet;
-    let mut t = above;
+    let mut bits = octet as u32;
+    let mut code = c;
     let mut tally = start;
     while bits != 0 {
-        let passed = u8::trailing_zeros(bits);
+        let passed = u32::trailing_zeros(bits);
         bits = bits >> passed >> 1;
-        t += passed + 1;
-        let code = c + t * 512;
-        let n = fill_one(code, list, octets, tally.count);
-        tally = fill_block(s, tally.at, 6, 64, code, list, octets, n);
+        code += (passed + 1) * OF_T;
+        tally = fill_unit(s, code, list, octets, tally);
     }
     tally
 }
 
 // Stores the SPar(2) block at a place, with the NPar(3) blocks from the tally's place on.
 fn fill_subs(s: &[u8], e: usize, c: u32, list: &mut [u32], octets: &mut [u8], start: Tally) -> Tally
-    requires { ⌜ (length (now s) ≤ 64) × (c ≤ 500000000) × (start .count + length (subCodes c (numbers 6 64 0 (now s) e) (now s) (start .at)) ≤ 900000) ⌝ }
+    requires { ⌜ (length (now s) ≤ 64) × (c + ofS ≤ fieldBase 3) × (start .count + length (subCodes c (numbers 6 64 0 (now s) e) (now s) (start .at)) ≤ mostCodes) ⌝ }
     ensures { λ r. ⌜ Fills (subCodes c (numbers 6 64 0 (now (s .entry)) e) (now (s .entry)) (start .at)) (subsBehind (length (numbers 6 64 0 (now (s .entry)) e)) (now (s .entry)) (start .at)) (now (list .entry)) (now (octets .entry)) (start .count) (now (list .exit)) (now (octets .exit)) r ⌝ }
 {
     let mut tally = start;
-    let mut above = 0u32;
+    let mut above = c;
     let mut i = e;
     while i < s.len() {
         let o = s[i];
-        tally = fill_subs_of(s, o % 64, above, c, list, octets, tally);
+        tally = fill_subs_of(s, o % 64, above, list, octets, tally);
         if 64 <= o {
             return tally;
         }
-        above += 6;
+        above += 6 * OF_T;
         i += 1;
     }
     tally
@@ -193,7 +180,7 @@ fn fill_subs(s: &[u8], e: usize, c: u32, list: &mut [u32], octets: &mut [u8], st
 
 // Stores what stands in a Par(2) block behind its NPar(2), which ends before the tally's place.
 fn fill_group(s: &[u8], c: u32, list: &mut [u32], octets: &mut [u8], start: Tally) -> Tally
-    requires { ⌜ (length (now s) ≤ 64) × (c ≤ 500000000) × (start .count + length (groupCodes c (now s) (start .at)) ≤ 900000) ⌝ }
+    requires { ⌜ (length (now s) ≤ 64) × (c + ofS ≤ fieldBase 3) × (start .count + length (groupCodes c (now s) (start .at)) ≤ mostCodes) ⌝ }
     ensures { λ r. ⌜ Fills (groupCodes c (now (s .entry)) (start .at)) (groupBehind (now (s .entry)) (start .at)) (now (list .entry)) (now (octets .entry)) (start .count) (now (list .exit)) (now (octets .exit)) r ⌝ }
 {
     let e = start.at;
@@ -207,35 +194,33 @@ fn fill_group(s: &[u8], c: u32, list: &mut [u32], octets: &mut [u8], start: Tall
 
 // Stores the SPar(1) of a code, and the Par(2) block at the tally's place.
 fn fill_par(s: &[u8], code: u32, list: &mut [u32], octets: &mut [u8], start: Tally) -> Tally
-    requires { ⌜ (length (now s) ≤ 64) × (code ≤ 500000000) × (start .count + length (code ∷ (numbers 6 64 code (now s) (start .at) ++ groupCodes code (now s) (behind 64 (now s) (start .at)))) ≤ 900000) ⌝ }
+    requires { ⌜ (length (now s) ≤ 64) × (0 < code) × (code + ofS ≤ fieldBase 3) × (start .count + length (code ∷ (numbers 6 64 code (now s) (start .at) ++ groupCodes code (now s) (behind 64 (now s) (start .at)))) ≤ mostCodes) ⌝ }
     ensures { λ r. ⌜ Fills (code ∷ (numbers 6 64 code (now (s .entry)) (start .at) ++ groupCodes code (now (s .entry)) (behind 64 (now (s .entry)) (start .at)))) (groupBehind (now (s .entry)) (behind 64 (now (s .entry)) (start .at))) (now (list .entry)) (now (octets .entry)) (start .count) (now (list .exit)) (now (octets .exit)) r ⌝ }
 {
-    let n = fill_one(code, list, octets, start.count);
-    let middle = fill_block(s, start.at, 6, 64, code, list, octets, n);
+    let middle = fill_unit(s, code, list, octets, start);
     fill_group(s, code, list, octets, middle)
 }
 
-// Stores the SPar(1) above a base whose positions are set in an octet, above a number, each with the Par(2) block that follows.
+// Stores the SPar(1) above a code whose positions are set in an octet, each with the Par(2) block that follows.
 fn fill_pars_of(
     s: &[u8],
     octet: u8,
-    above: u32,
     base: u32,
     list: &mut [u32],
     octets: &mut [u8],
     start: Tally,
 ) -> Tally
-    requires { ⌜ (octet < 128) × (length (now s) ≤ 64) × (base ≤ 268435456) × (above ≤ 448) × (start .count + length (parCodes base (setBits 7 above octet) (now s) (start .at)) ≤ 900000) ⌝ }
-    ensures { λ r. ⌜ Fills (parCodes base (setBits 7 above octet) (now (s .entry)) (start .at)) (parsBehind (length (setBits 7 above octet)) (now (s .entry)) (start .at)) (now (list .entry)) (now (octets .entry)) (start .count) (now (list .exit)) (now (octets .exit)) r ⌝ }
+    requires { ⌜ (octet < 128) × (length (now s) ≤ 64) × (base + 8 * ofS ≤ fieldBase 3) × (start .count + length (parCodes base (setBits 7 0 octet) (now s) (start .at)) ≤ mostCodes) ⌝ }
+    ensures { λ r. ⌜ Fills (parCodes base (setBits 7 0 octet) (now (s .entry)) (start .at)) (parsBehind (length (setBits 7 0 octet)) (now (s .entry)) (start .at)) (now (list .entry)) (now (octets .entry)) (start .count) (now (list .exit)) (now (octets .exit)) r ⌝ }
 {
-    let mut bits = octet;
-    let mut q = above;
+    let mut bits = octet as u32;
+    let mut code = base;
     let mut tally = start;
     while bits != 0 {
-        let passed = u8::trailing_zeros(bits);
+        let passed = u32::trailing_zeros(bits);
         bits = bits >> passed >> 1;
-        q += passed + 1;
-        tally = fill_par(s, base + q * 262144, list, octets, tally);
+        code += (passed + 1) * OF_S;
+        tally = fill_par(s, code, list, octets, tally);
     }
     tally
 }
@@ -249,30 +234,37 @@ fn fill_pars(
     octets: &mut [u8],
     start: Tally,
 ) -> Tally
-    requires { ⌜ (length (now s) ≤ 64) × (base ≤ 268435456) × (start .count + length (parCodes base (numbers 7 128 0 (now s) e) (now s) (start .at)) ≤ 900000) ⌝ }
+    requires { ⌜ (length (now s) ≤ 64) × (base ≤ fieldBase 2) × (start .count + length (parCodes base (numbers 7 128 0 (now s) e) (now s) (start .at)) ≤ mostCodes) ⌝ }
     ensures { λ r. ⌜ Fills (parCodes base (numbers 7 128 0 (now (s .entry)) e) (now (s .entry)) (start .at)) (parsBehind (length (numbers 7 128 0 (now (s .entry)) e)) (now (s .entry)) (start .at)) (now (list .entry)) (now (octets .entry)) (start .count) (now (list .exit)) (now (octets .exit)) r ⌝ }
 {
     let mut tally = start;
-    let mut above = 0u32;
+    let mut above = base;
     let mut i = e;
     while i < s.len() {
         let o = s[i];
-        tally = fill_pars_of(s, o % 128, above, base, list, octets, tally);
+        tally = fill_pars_of(s, o % 128, above, list, octets, tally);
         if 128 <= o {
             return tally;
         }
-        above += 7;
+        above += 7 * OF_S;
         i += 1;
     }
     tally
 }
 
-// Stores the codes of the field at a place in both lists, and gives how many there are.
-fn fill_field(s: &[u8], at: usize, base: u32, list: &mut [u32], octets: &mut [u8]) -> usize
-    requires { ⌜ (length (now s) ≤ 64) × (base ≤ 268435456) ⌝ }
-    ensures { λ r. ⌜ Stores (fieldCodes base (now (s .entry)) at) (now (list .entry)) (now (octets .entry)) 0 (now (list .exit)) (now (octets .exit)) r ⌝ }
+// Stores the codes of the field at a place in both lists, behind the n stored before.
+fn fill_field(
+    s: &[u8],
+    at: usize,
+    base: u32,
+    list: &mut [u32],
+    octets: &mut [u8],
+    n: usize,
+) -> usize
+    requires { ⌜ (length (now s) ≤ 64) × (base ≤ fieldBase 2) × (n ≤ mostOfField) ⌝ }
+    ensures { λ r. ⌜ Stores (fieldCodes base (now (s .entry)) at) (now (list .entry)) (now (octets .entry)) n (now (list .exit)) (now (octets .exit)) r ⌝ }
 {
-    let first = fill_block(s, at, 7, 128, base, list, octets, 0);
+    let first = fill_block(s, 7, base, list, octets, Tally { count: n, at });
     let e = first.at;
     let start = Tally {
         count: first.count,
@@ -282,25 +274,27 @@ fn fill_field(s: &[u8], at: usize, base: u32, list: &mut [u32], octets: &mut [u8
     end.count
 }
 
-// Stores the codes of the field at a place, as many as there is room for, and gives how many there are.
-pub fn fill_codes(s: &[u8], at: usize, field: Field, list: &mut [u32]) -> usize
-    ensures { λ r. ⌜ FillsCodes (now (s .entry)) at field (now (list .entry)) r (now (list .exit)) ⌝ }
+// Stores the codes of I and then those of S, which are at these places, as many as there is room for in each list, and gives how
+// many there are. One call serves both fields: it is compiled once, for the form that is wanted.
+pub fn fill_fields(
+    s: &[u8],
+    identification: usize,
+    standard: usize,
+    list: &mut [u32],
+    octets: &mut [u8],
+) -> usize
+    ensures { λ r. ⌜ FillsFields (now (s .entry)) identification standard (now (list .entry)) (now (octets .entry)) r (now (list .exit)) (now (octets .exit)) ⌝ }
 {
     if MOST_OCTETS < s.len() {
         return 0;
     }
-    let mut none = [0u8; 0];
-    fill_field(s, at, base_of(field), list, &mut none)
-}
-
-// Stores the codes of the field at a place, four octets to a code, lowest first, as many octets as there is room for, and gives
-// how many codes there are.
-pub fn fill_octets(s: &[u8], at: usize, field: Field, list: &mut [u8]) -> usize
-    ensures { λ r. ⌜ FillsOctets (now (s .entry)) at field (now (list .entry)) r (now (list .exit)) ⌝ }
-{
-    if MOST_OCTETS < s.len() {
-        return 0;
+    let mut base = IDENTIFICATION;
+    let mut at = identification;
+    let mut n = 0;
+    while base <= STANDARD {
+        n = fill_field(s, at, base, list, octets, n);
+        at = standard;
+        base += IDENTIFICATION;
     }
-    let mut none = [0u32; 0];
-    fill_field(s, at, base_of(field), &mut none, list)
+    n
 }

@@ -12,10 +12,9 @@ use lib.Dec.{eqb, leb, ltb}
 use lib.ListN.{length, take, drop, length-drop, take-append-drop}
 use lib.Seq.{length-take-le, take-take, drop-drop}
 use Rattle.octets.specs.Bits.{bits, number, octBefore}
-use Rattle.octets.specs.Places.{pick}
-use Rattle.octets.proofs.Laws.{length-bits}
+use Rattle.octets.specs.Places.{pick, both}
+use Rattle.octets.proofs.Laws.{length-bits, both-true}
 use Rattle.octets.proofs.Digits.{octet-number}
-use Rattle.frame.specs.Stuffing.{both}
 use Rattle.frame.specs.Pen.{lowBits, Adds}
 use Rattle.frame.specs.Inner.{fiveEnd, takens, leftsBehind, keptsBehind, NoSix, Takes, Goes}
 use Rattle.frame.specs.declared.Pen.{Pen}
@@ -129,10 +128,6 @@ abbrev leaves : ℕ → ℕ → ℕ → ℕ → (Bool → Bool) → Bool
 leaves k n o l f =
     both (eqb (leftsBehind k (lowBits n o)) l)
     (both (Bool·beq (keptsBehind true k (lowBits n o)) (f true)) (Bool·beq (keptsBehind false k (lowBits n o)) (f false)))
-
-both-true : (a b : Bool) → both a b ≡ true → (a ≡ true) × (b ≡ true)
-both-true true b e = (refl, e)
-both-true false b e = absurd (let z : _≡_ {A = ℕ} 0 1 = cc in omega arith)
 
 same : (a b : Bool) → Bool·beq a b ≡ true → a ≡ b
 same true true e = refl

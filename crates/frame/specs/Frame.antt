@@ -6,10 +6,10 @@ use mathlib.Core.List.{List, [], _++_}
 use lib.Dec.{leb}
 use lib.ListN.{drop}
 use Rattle.octets.specs.Bits.{bits}
-use Rattle.octets.specs.Places.{pick}
+use Rattle.octets.specs.Places.{pick, both}
 use Rattle.fcs.specs.Division.{fcs}
 use Rattle.frame.specs.Limits.{fewestOpening, mostOpening, mostClosing}
-use Rattle.frame.specs.Stuffing.{flag, both, starts, stuffed, Parts, unparted, parted, contentFrom}
+use Rattle.frame.specs.Stuffing.{flag, starts, stuffed, Parts, unparted, parted, contentFrom}
 
 -- k flags, none sharing a zero with the next
 unfoldable pub flags : ℕ → List Bool

@@ -10,7 +10,8 @@ use Rattle.octets.specs.Bits.{bits, packed}
 use Rattle.octets.specs.Lay.{put}
 use Rattle.fcs.specs.Division.{fcs}
 use Rattle.frame.specs.Limits.{mostBits, informationRoom, fewestContent, mostContent}
-use Rattle.frame.specs.Stuffing.{both, Parts, unparted, parted}
+use Rattle.octets.specs.Places.{both}
+use Rattle.frame.specs.Stuffing.{Parts, unparted, parted}
 use Rattle.frame.specs.Frame.{framed}
 use Rattle.frame.specs.declared.FrameRead.{FrameRead}
 use Rattle.frame.specs.declared.FrameRead.the-variants.{Octets, NoRoom, BadFlags, SplitOctet, TooShort, TooLong, WrongCheck}

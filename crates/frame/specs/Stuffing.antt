@@ -4,14 +4,11 @@ use Prim.Native.Nat.{ℕ, zero, suc}
 use mathlib.Core.Bool.{Bool, true, false, Bool·beq}
 use mathlib.Core.List.{List, [], _∷_}
 use mathlib.Core.Option.{Option, none, some}
+use Rattle.octets.specs.Places.{both}
 
 -- 01111110
 abbrev pub flag : List Bool
 flag = false ∷ true ∷ true ∷ true ∷ true ∷ true ∷ true ∷ false ∷ []
-
-abbrev pub both : Bool → Bool → Bool
-both true b = b
-both false b = false
 
 -- the second list begins with the first
 unfoldable pub starts : List Bool → List Bool → Bool

@@ -12,7 +12,7 @@ use lib.Dec.{ltb, eqb}
 use lib.ListN.{length, getD, drop}
 use lib.Pow.{shr-shr}
 use Rattle.octets.specs.Bits.{odd}
-use Rattle.octets.specs.Places.{pick}
+use Rattle.octets.specs.Places.{pick, both}
 use Rattle.tree.specs.Block.{setBits, blockNumbers, blockEnd, numbers, behind}
 use Rattle.tree.specs.Fields.{isIn, allIn}
 use Rattle.tree.specs.Order.{Ascending, AllBelow}
@@ -23,8 +23,8 @@ use Rattle.tree.proofs.Ascending.{bits-between}
 use Rattle.tree.proofs.Forms.{form-out}
 use Rattle.tree.proofs.Lowest.{in-bits}
 use Rattle.within.proofs.Taking.{bits-within}
-use Rattle.writer.specs.Minimal.{both, fullAtEnd, tight}
-use Rattle.writer.proofs.Putting.{drop-next}
+use Rattle.meaning.specs.Minimal.{fullAtEnd, tight}
+use Rattle.octets.proofs.Laws.{drop-next}
 use Rattle.good.specs.Judging.{allNamed, goodBlock}
 
 -- ---- two tests

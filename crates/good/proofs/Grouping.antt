@@ -12,14 +12,15 @@ use lib.Dec.{ltb, eqb}
 use lib.ListN.{length, getD, drop, length-drop}
 use lib.Pow.{pow-mono}
 use lib.Seq.{getD-drop}
+use Rattle.tree.specs.Codes.{ofF}
 use Rattle.octets.specs.Bits.{num, odd}
 use Rattle.octets.specs.Places.{pick}
 use Rattle.tree.specs.Block.{setBits, blockNumbers, numbers, announced}
 use Rattle.tree.proofs.Lowest.{lowest, bits-none, bits-below}
-use Rattle.writer.proofs.Reading.{rising-at}
-use Rattle.writer.proofs.Blocks.{rising-numbers}
-use Rattle.writer.proofs.Minimals.{both-true}
-use Rattle.writer.proofs.Trees.{Rising}
+use Rattle.meaning.proofs.Reading.{rising-at}
+use Rattle.meaning.proofs.Blocks.{rising-numbers}
+use Rattle.octets.proofs.Laws.{both-true}
+use Rattle.meaning.proofs.Trees.{Rising}
 use Rattle.names.specs.Tables.{sparBlocks}
 use Rattle.names.specs.Named.{rowsUnder, isStandard}
 use Rattle.names.specs.Masks.{maskOf, sparPlaces}
@@ -29,13 +30,13 @@ use Rattle.good.specs.Judging.{sparBits, allNamed}
 -- ---- the only SPar(2)
 
 -- under an SPar(1) no position but the first is standard
-first-only : (c : ℕ) → 0 < c % 134217728 → sparBits c < 2
+first-only : (c : ℕ) → 0 < c % ofF → sparBits c < 2
 unfolding sparPlaces maskOf every
 first-only c h =
     ⊎-elim
     (λ (e : rowsUnder c sparBlocks ≡ []). rw e (omega arith))
-    (λ e. ltb-true (maskOf isStandard (rowsUnder c sparBlocks)) 2 (rw (ne-eqb (c % 134217728) 0 (λ z. omega arith)) at e))
-    (under-every (λ x rows. pick (eqb (x % 134217728) 0) true (ltb (maskOf isStandard rows) 2)) sparBlocks c refl)
+    (λ e. ltb-true (maskOf isStandard (rowsUnder c sparBlocks)) 2 (rw (ne-eqb (c % ofF) 0 (λ z. omega arith)) at e))
+    (under-every (λ x rows. pick (eqb (x % ofF) 0) true (ltb (maskOf isStandard rows) 2)) sparBlocks c refl)
 
 -- a bit of such a number is its lowest
 lowest-named : (n q : ℕ) → n < 2 → odd (n / 2 ^ (q - 1)) ≡ true → q ≤ 1
@@ -90,7 +91,7 @@ first-set (o ∷ r) h s =
     first true e = omega (arith, (rw e at (rising-numbers 6 64 6 r (omega arith))) .0)
     first false e = omega (arith, ap length e)
 
-module _ (l : List ℕ) (short : length l ≤ 64) (c e : ℕ) (u : 0 < c % 134217728) (h : allNamed (sparBits c) (numbers 6 64 0 l e) ≡ true) where
+module _ (l : List ℕ) (short : length l ≤ 64) (c e : ℕ) (u : 0 < c % ofF) (h : allNamed (sparBits c) (numbers 6 64 0 l e) ≡ true) where
   -- the SPar(2) positions that are all standard are none or the first
   pub sub-few : (numbers 6 64 0 l e ≡ []) ⊎ (numbers 6 64 0 l e ≡ 1 ∷ [])
   sub-few = named-few (sparBits c) (numbers 6 64 0 l e) (first-only c u) (rising-at l short 6 64 e (omega arith)) h

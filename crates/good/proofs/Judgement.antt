@@ -9,17 +9,17 @@ use native.Mathlib.Omega.{arith}
 use lib.Dec.{eqb}
 use lib.ListN.{length, getD, drop}
 use Rattle.octets.specs.Bits.{num}
-use Rattle.octets.specs.Places.{pick}
+use Rattle.octets.specs.Places.{pick, both}
 use Rattle.tree.specs.Block.{numbers, behind, announced, ended}
-use Rattle.tree.specs.Codes.{fieldBase, subCodes, groupCodes, groupBehind, parCodes, restCodes, fieldCodes}
+use Rattle.tree.specs.Codes.{fieldBase, subCodes, groupCodes, groupBehind, parCodes, restCodes, fieldCodes, ofF, ofS}
 use Rattle.tree.specs.Form.{isFine, andThen, lastForm, formAt, subsForm, groupForm, parsForm, restForm, fieldForm}
 use Rattle.tree.specs.declared.Form.{Form}
 use Rattle.tree.specs.declared.Form.the-variants.{Fine, Early, Wrong, Left, BadLength}
-use Rattle.writer.specs.Minimal.{both, tightAt, subsMinimal, groupMinimal, parsMinimal, fieldMinimal}
-use Rattle.writer.proofs.Blocks.{numbers-shift}
-use Rattle.writer.proofs.Minimals.{both-true}
-use Rattle.writer.proofs.Reading.{rising-at}
-use Rattle.writer.proofs.Trees.{shift, Rising}
+use Rattle.meaning.specs.Minimal.{tightAt, subsMinimal, groupMinimal, parsMinimal, fieldMinimal}
+use Rattle.tree.proofs.Numbering.{numbers-shift, shift}
+use Rattle.octets.proofs.Laws.{both-true}
+use Rattle.meaning.proofs.Reading.{rising-at}
+use Rattle.meaning.proofs.Trees.{Rising}
 use Rattle.names.specs.Named.{standardCode}
 use Rattle.names.specs.Masks.{nparPlaces, sparPlaces}
 use Rattle.names.specs.declared.Keep.the-variants.{Standard}
@@ -45,7 +45,7 @@ shift-named c lo [] a r = refl
 shift-named c lo (q ∷ qs) a r = rw (← (keeps-npar Standard c q a (omega (arith, r .0)) (omega (arith, r .1))), shift-named c q qs a (r .2))
 
 -- those of an SPar(2) are only if its positions are
-subs-named : (c lo : ℕ) (ts l : List ℕ) (e : ℕ) → c % 262144 ≡ 0 → Rising lo ts → allStandard (subCodes c ts l e) ≡ true → allNamed (sparBits c) ts ≡ true
+subs-named : (c lo : ℕ) (ts l : List ℕ) (e : ℕ) → c % ofS ≡ 0 → Rising lo ts → allStandard (subCodes c ts l e) ≡ true → allNamed (sparBits c) ts ≡ true
 unfolding Rising allStandard allNamed subCodes sparPlaces
 subs-named c lo [] l e a r h = refl
 subs-named c lo (t ∷ ts) l e a r h =
@@ -107,7 +107,7 @@ module _ (l : List ℕ) (short : length l ≤ 64) where
   npars-named w m c e h a = ap allStandard (numbers-shift w m c (drop e l)) ∙ shift-named c 0 (numbers w m 0 l e) a (rising-at l short w m e h)
 
   -- SPar(2) and what it announces
-  lower-judged : (c e : ℕ) → c % 262144 ≡ 0 → 0 < c % 134217728 →
+  lower-judged : (c e : ℕ) → c % ofS ≡ 0 → 0 < c % ofF →
       let k = announced 6 64 l e in
       let x = behind 64 l e in
       both (both (isFine (formAt 64 l e)) (isFine (subsForm k l x)))
@@ -159,7 +159,7 @@ module _ (l : List ℕ) (short : length l ≤ 64) where
           )
           (sym (both-none (not (eqb (getD l e 0 % 64) 0))))
 
-  group-judged : (c e : ℕ) → c % 262144 ≡ 0 → 0 < c % 134217728
+  group-judged : (c e : ℕ) → c % ofS ≡ 0 → 0 < c % ofF
       → both (isFine (groupForm l e)) (both (groupMinimal l e) (allStandard (groupCodes c l e))) ≡ goodGroup c l e
   unfolding groupForm groupMinimal groupCodes goodGroup allStandard
   group-judged c e a u =
@@ -172,16 +172,16 @@ module _ (l : List ℕ) (short : length l ≤ 64) where
       go f g m cs true h = refl
       go f g m cs false h = rw (and-fine f g) h
 
-  pars-judged : (b lo : ℕ) (ss : List ℕ) (e : ℕ) → b % 134217728 ≡ 0 → Rising lo ss
+  pars-judged : (b lo : ℕ) (ss : List ℕ) (e : ℕ) → b % ofF ≡ 0 → Rising lo ss
       → both (isFine (parsForm (length ss) l e)) (both (parsMinimal (length ss) l e) (allStandard (parCodes b ss l e))) ≡ both (allNamed (sparBits b) ss) (goodPars b ss l e)
   unfolding Rising parsForm parsMinimal parCodes goodPars goodPar allStandard allNamed sparPlaces
   pars-judged b lo [] e a r = refl
   pars-judged b lo (s ∷ ss) e a r =
-      let c = b + s * 262144 in
+      let c = b + s * ofS in
       let x = behind 64 l e in
       let y = groupBehind l x in
       let N = numbers 6 64 c l e in
-      let low : c % 134217728 ≡ s * 262144 = omega (arith, r .1) in
+      let low : c % ofF ≡ s * ofS = omega (arith, r .1) in
       rw (
         and-fine (formAt 64 l e) (andThen (groupForm l x) (parsForm (length ss) l y)),
         and-fine (groupForm l x) (parsForm (length ss) l y),

@@ -8,13 +8,13 @@ use native.Mathlib.Omega.{arith}
 use borrow.Author.Tests.{leb-true, le-leb, lt-leb, eqb-true}
 use lib.Dec.{leb, eqb}
 use lib.ListN.{length}
-use Rattle.octets.specs.Places.{pick}
+use Rattle.octets.specs.Places.{pick, both}
 use Rattle.tree.specs.Codes.{fieldBase, fieldCodes, fieldBehind}
 use Rattle.tree.specs.Form.{isFine, fieldForm}
 use Rattle.tree.specs.declared.Form.the-variants.{Fine}
 use Rattle.tree.proofs.Forms.{is-fine, field-fits}
-use Rattle.writer.specs.Minimal.{both, fieldMinimal}
-use Rattle.writer.proofs.Minimals.{both-true}
+use Rattle.meaning.specs.Minimal.{fieldMinimal}
+use Rattle.octets.proofs.Laws.{both-true}
 use Rattle.good.specs.Good.{mostStandard, allStandard, goodField}
 use Rattle.good.specs.Judging.{goodStandard}
 use Rattle.good.proofs.Allowed.{both-none}

@@ -12,15 +12,14 @@ use lib.Dec.{ltb, eqb}
 use lib.ListN.{length, getD, drop, drop-of-length-le, List·getD-eq-default}
 use lib.Pow.{shr-le}
 use Rattle.octets.specs.Bits.{num}
-use Rattle.octets.specs.Places.{pick}
+use Rattle.octets.specs.Places.{pick, both}
 use Rattle.tree.specs.Block.{setBits, blockNumbers, numbers, behind, ended}
-use Rattle.tree.specs.Codes.{fieldBase, subsBehind, groupBehind, parsBehind, restBehind, fieldBehind}
+use Rattle.tree.specs.Codes.{fieldBase, subsBehind, groupBehind, parsBehind, restBehind, fieldBehind, ofF, ofS}
 use Rattle.tree.specs.Form.{isFine, formAt}
 use Rattle.tree.proofs.Forms.{is-fine, end-above, fine-behind}
 use Rattle.tree.proofs.Lowest.{Lowest, lowest, bits-none, bits-below}
-use Rattle.writer.specs.Minimal.{both, tightAt}
-use Rattle.writer.proofs.Minimals.{both-true}
-use Rattle.writer.proofs.Putting.{drop-next}
+use Rattle.meaning.specs.Minimal.{tightAt}
+use Rattle.octets.proofs.Laws.{both-true, drop-next}
 use Rattle.names.specs.Masks.{nparPlaces, sparPlaces}
 use Rattle.names.specs.declared.Keep.the-variants.{Standard}
 use Rattle.names.specs.declared.Places.{Places}
@@ -108,7 +107,7 @@ module _ (c : ℕ) (l : List ℕ) (e : ℕ) where
       group-bad z = rw (group-open, block-bad 6 64 (sparBits c) l e here z, both-none (not (eqb (getD l e 0 % 64) 0)))
 
       -- it is, and an NPar(3) block follows
-      pub group-on : length l ≤ 64 → 0 < c % 134217728 → (getD l e 0 % 64 ≡ 0 → ⊥) → (r ≡ 0 → ⊥) → {q : Places} {v : ℕ} → q ≡ nparPlaces Standard (c + 512)
+      pub group-on : length l ≤ 64 → 0 < c % ofF → (getD l e 0 % 64 ≡ 0 → ⊥) → (r ≡ 0 → ⊥) → {q : Places} {v : ℕ} → q ≡ nparPlaces Standard (c + 512)
           → v ≡ pick (goodSub (q .bits) l r) (behind 64 l r) 0 → v ≡ groupJudged
       unfolding groupBehind subsBehind
       group-on short u k z {q} {v} n f =
@@ -146,9 +145,9 @@ pars-above zero l e = omega arith
 pars-above (suc k) l e = omega (arith, par-above l e, pars-above k l (groupBehind l (behind 64 l e)))
 
 -- several, by the first, and by the first ones
-pars-next : (b s : ℕ) (ss l : List ℕ) (e : ℕ) → parsJudged b (s ∷ ss) l e ≡ pick (goodPar (b + s * 262144) l e) (parsJudged b ss l (groupBehind l (behind 64 l e))) 0
+pars-next : (b s : ℕ) (ss l : List ℕ) (e : ℕ) → parsJudged b (s ∷ ss) l e ≡ pick (goodPar (b + s * ofS) l e) (parsJudged b ss l (groupBehind l (behind 64 l e))) 0
 unfolding goodPars parsBehind
-pars-next b s ss l e = go (goodPar (b + s * 262144) l e)
+pars-next b s ss l e = go (goodPar (b + s * ofS) l e)
   where
     y : ℕ
     y = groupBehind l (behind 64 l e)
@@ -162,7 +161,7 @@ unfolding goodPars parsBehind
 pars-append b [] r l e = refl
 pars-append b (s ∷ a) r l e =
     let y = groupBehind l (behind 64 l e) in
-    pars-next b s (a ++ r) l e ∙ rw (pars-append b a r l y) (go (goodPar (b + s * 262144) l e) (goodPars b a l y) (parsJudged b r l (parsBehind (length a) l y)))
+    pars-next b s (a ++ r) l e ∙ rw (pars-append b a r l y) (go (goodPar (b + s * ofS) l e) (goodPars b a l y) (parsJudged b r l (parsBehind (length a) l y)))
   where
     go : (t u : Bool) (x : ℕ) → pick t (pick u x 0) 0 ≡ pick (both t u) x 0
     go true u x = refl
@@ -218,27 +217,27 @@ module _ {b above octet : ℕ} {l : List ℕ} {start : ℕ} where
       bits-reach = omega (arith, low .0, y .reach, y .few)
 
       -- the code of that SPar(1), of S
-      pub bits-code : above ≤ 448 → let c = fieldBase 2 + next * 262144 in (c % 262144 ≡ 0) × (0 < c % 134217728) × (c ≤ 402653184)
+      pub bits-code : above ≤ 448 → let c = fieldBase 2 + next * ofS in (c % ofS ≡ 0) × (0 < c % ofF) × (c ≤ (fieldBase 3))
       bits-code h =
           let most : next ≤ 511 = omega (arith, bits-reach) in
-          let low : (fieldBase 2 + next * 262144) % 134217728 ≡ next * 262144 = omega arith in
+          let low : (fieldBase 2 + next * ofS) % ofF ≡ next * ofS = omega arith in
           (omega arith, omega (arith, low), omega arith)
 
       pub bits-less : bits / 2 ^ trailingZeros 8 bits / 2 < bits
       bits-less = omega (arith, shr-le bits (trailingZeros 8 bits))
 
-      module _ {r : ℕ} (j : r ≡ parJudged (b + next * 262144) l at) where
+      module _ {r : ℕ} (j : r ≡ parJudged (b + next * ofS) l at) where
         split : parsJudged b (setBits 7 above octet) l start
-            ≡ pick (goodPar (b + next * 262144) l at) (parsJudged b (setBits (y .left - (trailingZeros 8 bits + 1)) next (bits / 2 ^ trailingZeros 8 bits / 2)) l (groupBehind l (behind 64 l at))) 0
+            ≡ pick (goodPar (b + next * ofS) l at) (parsJudged b (setBits (y .left - (trailingZeros 8 bits + 1)) next (bits / 2 ^ trailingZeros 8 bits / 2)) l (groupBehind l (behind 64 l at))) 0
         split = sym (y .same) ∙ rw (low .1) (pars-next b next _ l at)
 
         -- its Par(2) block is not good, or it is
         pub bits-bad : r ≡ 0 → 0 ≡ parsJudged b (setBits 7 above octet) l start
-        bits-bad e = sym (split ∙ rw (judged-bad (goodPar (b + next * 262144) l at) _ j (λ g. omega (arith, y .some, par-above l at)) e))
+        bits-bad e = sym (split ∙ rw (judged-bad (goodPar (b + next * ofS) l at) _ j (λ g. omega (arith, y .some, par-above l at)) e))
 
         pub bits-turn : (r ≡ 0 → ⊥) → BitsJudged b above octet l start (bits / 2 ^ trailingZeros 8 bits / 2) next r
         bits-turn e =
-            let g = judged-good (goodPar (b + next * 262144) l at) _ j e in
+            let g = judged-good (goodPar (b + next * ofS) l at) _ j e in
             record {
               left = y .left - (trailingZeros 8 bits + 1);
               few = omega (arith, y .few);

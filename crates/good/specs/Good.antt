@@ -8,7 +8,8 @@ use lib.Dec.{leb, eqb}
 use lib.ListN.{length}
 use Rattle.tree.specs.Codes.{fieldBase, fieldCodes, fieldBehind}
 use Rattle.tree.specs.Form.{isFine, fieldForm}
-use Rattle.writer.specs.Minimal.{both, fieldMinimal}
+use Rattle.octets.specs.Places.{both}
+use Rattle.meaning.specs.Minimal.{fieldMinimal}
 use Rattle.names.specs.Named.{standardCode}
 
 -- what an MS has room for behind octet 1 and an I of two octets

@@ -7,11 +7,11 @@ use mathlib.Core.List.{List, [], _∷_}
 use lib.Dec.{eqb}
 use lib.ListN.{length, getD}
 use Rattle.octets.specs.Bits.{odd}
-use Rattle.octets.specs.Places.{pick}
+use Rattle.octets.specs.Places.{pick, both}
 use Rattle.tree.specs.Block.{numbers, behind, ended}
-use Rattle.tree.specs.Codes.{fieldBase, groupBehind, parsBehind}
+use Rattle.tree.specs.Codes.{ofT, ofS, fieldBase, groupBehind, parsBehind}
 use Rattle.tree.specs.Form.{isFine, formAt}
-use Rattle.writer.specs.Minimal.{both, tightAt}
+use Rattle.meaning.specs.Minimal.{tightAt}
 use Rattle.names.specs.Masks.{nparPlaces, sparPlaces}
 use Rattle.names.specs.declared.Keep.the-variants.{Standard}
 
@@ -41,7 +41,7 @@ unfoldable pub goodGroup : ℕ → List ℕ → ℕ → Bool
 goodGroup c l e =
     pick (ended l e) true
     (both (not (eqb (getD l e 0 % 64) 0))
-    (both (goodBlock 6 64 (sparBits c) l e) (goodSub (nparBits (c + 512)) l (behind 64 l e))))
+    (both (goodBlock 6 64 (sparBits c) l e) (goodSub (nparBits (c + ofT)) l (behind 64 l e))))
 
 -- a Par(2) block
 unfoldable pub goodPar : ℕ → List ℕ → ℕ → Bool
@@ -50,7 +50,7 @@ goodPar c l e = both (goodBlock 6 64 (nparBits c) l e) (goodGroup c l (behind 64
 -- those of some SPar(1) positions above b
 unfoldable pub goodPars : ℕ → List ℕ → List ℕ → ℕ → Bool
 goodPars b [] l e = true
-goodPars b (s ∷ ss) l e = both (goodPar (b + s * 262144) l e) (goodPars b ss l (groupBehind l (behind 64 l e)))
+goodPars b (s ∷ ss) l e = both (goodPar (b + s * ofS) l e) (goodPars b ss l (groupBehind l (behind 64 l e)))
 
 -- SPar(1) at place e and what it announces, and the whole field
 unfoldable pub goodRest : ℕ → List ℕ → ℕ → Bool

@@ -5,19 +5,19 @@ ghost use Prim.Native.Nat.{_+_, _%_, _^_, _≤_, _<_};
 ghost use lib.ListN.{length};
 ghost use Rattle.octets.specs.Places.{pick};
 ghost use Rattle.tree.specs.Block.{setBits, numbers, behind};
-ghost use Rattle.tree.specs.Codes.{fieldBase, groupBehind, fieldBehind};
+ghost use Rattle.tree.specs.Codes.{ofS, ofF, fieldBase, groupBehind, fieldBehind};
 ghost use Rattle.good.specs.Judging.{goodBlock, goodSub, goodGroup, goodPar, goodStandard, parsJudged};
 ghost use Rattle.good.specs.Contracts.{TellsGood};
 use names::Keep;
 use names::npar_places;
 use names::spar_places;
+use tree::OF_S;
+use tree::OF_T;
+use tree::STANDARD;
 use tree::bit8;
 
 // The octets that an MS has room for behind octet 1 and an I of two octets.
 const MOST_STANDARD: usize = 61;
-
-// What the codes of S stand above.
-const BASE: u32 = 268435456;
 
 // The place behind the block at a place; 0 where it is not well-formed, has a position that is no bit of a number, or has nothing set
 // in its last octet and another octet before that.
@@ -65,7 +65,7 @@ fn sub_good(s: &[u8], e: usize, names: u32) -> usize
 
 // The place behind what stands in a Par(2) block behind its NPar(2), which ends before a place; c is the SPar(1).
 fn group_good(s: &[u8], e: usize, c: u32) -> usize
-    requires { ⌜ (length (now s) ≤ 64) × (c % 262144 ≡ 0) × (0 < c % 134217728) × (c ≤ 402653184) ⌝ }
+    requires { ⌜ (length (now s) ≤ 64) × (c % ofS ≡ 0) × (0 < c % ofF) × (c ≤ fieldBase 3) ⌝ }
     ensures { λ r. ⌜ r ≡ pick (goodGroup c (now (s .entry)) e) (groupBehind (now (s .entry)) e) 0 ⌝ }
 {
     if bit8(s, e) {
@@ -82,13 +82,13 @@ fn group_good(s: &[u8], e: usize, c: u32) -> usize
     if next == 0 {
         return 0;
     }
-    let npars = npar_places(Keep::Standard, c + 512);
+    let npars = npar_places(Keep::Standard, c + OF_T);
     sub_good(s, next, npars.bits)
 }
 
 // The place behind the Par(2) block at a place; c is the SPar(1).
 fn par_good(s: &[u8], e: usize, c: u32) -> usize
-    requires { ⌜ (length (now s) ≤ 64) × (c % 262144 ≡ 0) × (0 < c % 134217728) × (c ≤ 402653184) ⌝ }
+    requires { ⌜ (length (now s) ≤ 64) × (c % ofS ≡ 0) × (0 < c % ofF) × (c ≤ fieldBase 3) ⌝ }
     ensures { λ r. ⌜ r ≡ pick (goodPar c (now (s .entry)) e) (groupBehind (now (s .entry)) (behind 64 (now (s .entry)) e)) 0 ⌝ }
 {
     let npars = npar_places(Keep::Standard, c);
@@ -111,7 +111,7 @@ fn pars_good_of(s: &[u8], octet: u8, above: u32, start: usize) -> usize
         let passed = u8::trailing_zeros(bits);
         bits = bits >> passed >> 1;
         q += passed + 1;
-        at = par_good(s, at, BASE + q * 262144);
+        at = par_good(s, at, STANDARD + q * OF_S);
         if at == 0 {
             return 0;
         }
@@ -147,12 +147,12 @@ fn field_good(s: &[u8]) -> usize
     requires { ⌜ length (now s) ≤ 64 ⌝ }
     ensures { λ r. ⌜ r ≡ pick (goodStandard (now (s .entry))) (fieldBehind (now (s .entry)) 0) 0 ⌝ }
 {
-    let npars = npar_places(Keep::Standard, BASE);
+    let npars = npar_places(Keep::Standard, STANDARD);
     let e = block_good(s, 0, 7, 128, npars.bits);
     if e == 0 {
         return 0;
     }
-    let spars = spar_places(Keep::Standard, BASE);
+    let spars = spar_places(Keep::Standard, STANDARD);
     let start = block_good(s, e, 7, 128, spars.bits);
     if start == 0 {
         return 0;

@@ -3,23 +3,26 @@
 use Prim.Native.Nat.{ℕ, suc, _-_, _<_, _≤_}
 use mathlib.Core.Path.{_≡_, refl, sym, ap, _∙_}
 use mathlib.Core.Bool.{Bool, true, false, not}
-use mathlib.Core.List.{List, []}
+use mathlib.Core.List.{List, [], _++_}
 use native.Mathlib.Omega.{arith}
 use borrow.Author.Tests.{le-ltb, ltb-false, eqb-false, not-false}
 use lib.Dec.{ltb, eqb}
-use lib.ListN.{length, drop, length-drop}
+use lib.ListN.{length, drop, length-append, length-drop}
 use lib.Seq.{take-all}
 use Rattle.octets.specs.Lay.{put}
 use Rattle.octets.specs.Places.{pick}
+use Rattle.tree.specs.Codes.{fieldBase, fieldCodes}
 use Rattle.tree.specs.declared.Form.{Form}
 use Rattle.tree.specs.declared.Form.the-variants.{Fine, Early, Wrong, Left, BadLength}
 use Rattle.message.specs.Kinds.{known, hasFields, typeOf}
 use Rattle.message.specs.Nonstandard.{nsAnnounced}
-use Rattle.message.specs.Reader.{mostOctets, listRoom, tailAt, messageForm, messageCodes, hasNs, Reading, refused, accepted, refusedIf, judged, readMessage, Reply, readTold, readReply, Reads, spanTold, nsTold}
+use Rattle.tree.specs.Fields.{mostOctets}
+use Rattle.message.specs.Reader.{listRoom, standardAt, tailAt, messageForm, messageCodes, hasNs, Reading, refused, accepted, refusedIf, judged, readMessage, Reply, readTold, readReply, codesRead, Reads, spanTold, nsTold}
 use Rattle.message.specs.declared.MessageRead.{MessageRead}
 use Rattle.message.specs.declared.MessageRead.the-variants.{Read, SmallList, BadSize, UnknownType, Malformed}
 use Rattle.message.proofs.Fields.{parts-fit}
 use Rattle.message.proofs.Reading.{form-fields}
+use Rattle.message.proofs.Room.{codes-fit}
 use Rattle.message.proofs.Unique.{ns-none}
 
 -- success tells that P holds, and no refusal has the number 0
@@ -73,6 +76,24 @@ accepted-passed l room e =
 pub accepted-fine : (l : List ℕ) (room : ℕ) → readMessage l room ≡ accepted → messageForm l ≡ Fine
 accepted-fine l room e = accepted-passed l room e .form
 
+-- it has at most 448 codes
+pub at-most-448 : (l : List ℕ) (room : ℕ) → readMessage l room ≡ accepted → length (messageCodes l) ≤ listRoom
+unfolding messageCodes
+at-most-448 l room e = go (hasFields (typeOf l)) (accepted-passed l room e)
+  where
+    go : (t : Bool) → Passed l → length (pick t (fieldCodes (fieldBase 1) l 1 ++ fieldCodes (fieldBase 2) l (standardAt l)) []) ≤ listRoom
+    go true p = simp length-append (codes-fit (fieldBase 1) (fieldBase 2) l (p .some) (p .few))
+    go false p = omega arith
+
+-- what is stored has room in the list
+pub codes-stored : (l : List ℕ) (room : ℕ) → length (codesRead (readMessage l room) l) ≤ room
+unfolding Passes
+codes-stored l room = go (readMessage l room) refl
+  where
+    go : (x : Reading) → readMessage l room ≡ x → length (codesRead x l) ≤ room
+    go (refused k) e = omega arith
+    go accepted e = omega (arith, at-most-448 l room e, ltb-false room listRoom (passes l room .0 e .0))
+
 -- no refusal has the number of success
 pub never-zero : (l : List ℕ) (room : ℕ) → readMessage l room ≡ refused 0 → ⊥
 unfolding Passes
@@ -105,6 +126,21 @@ ns-fits l f h = go (hasFields (typeOf l)) refl h
     go : (t : Bool) → hasFields (typeOf l) ≡ t → pick t (nsAnnounced l) false ≡ true → tailAt l ≤ length l
     go true e i = parts-fit l (sym (form-fields l e) ∙ f) .1
     go false e i = let z : _≡_ {A = ℕ} 0 1 = cc in omega arith
+
+-- so each number that is told is small
+pub told-small : (l : List ℕ) (room : ℕ) → let p = readReply (readMessage l room) l in (p .count ≤ listRoom) × (p .nsAt ≤ mostOctets) × (p .nsLength ≤ mostOctets)
+told-small l room = go (readMessage l room) refl
+  where
+    ns : (t : Bool) → length l ≤ mostOctets → (t ≡ true → tailAt l ≤ length l) → (pick t (tailAt l) 0 ≤ mostOctets) × (pick t (length l - tailAt l) 0 ≤ mostOctets)
+    ns true few h = omega (arith, h refl)
+    ns false few h = omega arith
+
+    go : (x : Reading) → readMessage l room ≡ x → let p = readReply x l in (p .count ≤ listRoom) × (p .nsAt ≤ mostOctets) × (p .nsLength ≤ mostOctets)
+    go (refused k) e = omega arith
+    go accepted e =
+        let p = accepted-passed l room e in
+        let q = ns (hasNs l) (p .few) (ns-fits l (p .form)) in
+        (at-most-448 l room e, q .0, q .1)
 
 -- the NS that it tells of is all that stands behind S
 pub success-ns : (l list₀ : List ℕ) (r : MessageRead) (list₁ : List ℕ) → Reads l list₀ r list₁ → readTold r .no ≡ 0 → nsTold r l ≡ pick (hasNs l) (drop (tailAt l) l) []

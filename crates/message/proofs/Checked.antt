@@ -8,13 +8,12 @@ use native.Mathlib.Omega.{arith}
 use lib.ListN.{length, take, drop, length-drop, drop-of-length-le}
 use lib.Seq.{take-all}
 use Rattle.octets.specs.Places.{pick}
-use Rattle.tree.specs.Form.{fieldForm}
 use Rattle.tree.specs.declared.Form.the-variants.{Fine}
-use Rattle.tree.proofs.Forms.{field-fits}
 use Rattle.message.specs.Check.{Finding, checkTold, checkReply, checkMessage}
 use Rattle.message.specs.Kinds.{hasFields, typeOf}
-use Rattle.message.specs.Nonstandard.{nsAnnounced, tailForm}
-use Rattle.message.specs.Reader.{mostOctets, listRoom, standardAt, tailAt, nsPlace, nsSize, Reading, refused, accepted, readMessage}
+use Rattle.message.specs.Nonstandard.{nsAnnounced}
+use Rattle.tree.specs.Fields.{mostOctets}
+use Rattle.message.specs.Reader.{listRoom, standardAt, tailAt, nsPlace, nsSize, Reading, refused, accepted, readMessage}
 use Rattle.message.specs.declared.MessageCheck.{MessageCheck}
 use Rattle.message.specs.declared.MessageCheck.the-variants.{Parted, BadSize, UnknownType, Malformed}
 use Rattle.message.specs.declared.Parts.{Parts}
@@ -90,25 +89,13 @@ module _ (l : List ℕ) (p : Parts) (t : checkTold (Parted p) ≡ checkMessage l
   pub few-octets : length l ≤ mostOctets
   few-octets = passed .few
 
-  -- with fields: each part is well-formed and lies within the octets
+  -- with fields: there is an octet of I, and what is behind S begins within the octets
   module _ (h : hasFields (typeOf l) ≡ true) where
     parts : whole l ≡ Fine
     parts = fields-fine l listRoom parted-accepted h
 
-    pub identification-fine : fieldForm l 1 ≡ Fine
-    identification-fine = parts-fine l parts .0
-
-    pub standard-fine : fieldForm l (standardAt l) ≡ Fine
-    standard-fine = parts-fine l parts .1
-
-    pub tail-fine : tailForm l (tailAt l) ≡ Fine
-    tail-fine = parts-fine l parts .2
-
     pub more-octets : 1 < length l
     more-octets = parts-fit l parts .0
-
-    pub standard-before-tail : standardAt l ≤ tailAt l
-    standard-before-tail = omega (arith, field-fits l (standardAt l) standard-fine)
 
     pub tail-within : tailAt l ≤ length l
     tail-within = parts-fit l parts .1

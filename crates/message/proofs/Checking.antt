@@ -8,16 +8,20 @@ use native.Mathlib.Omega.{arith}
 use lib.ListN.{length}
 use Rattle.tree.specs.Block.{blockNumbers, blockEnd}
 use Rattle.tree.specs.Codes.{parsBehind, restBehind, fieldBehind}
-use Rattle.tree.specs.Form.{isFine}
-use Rattle.tree.proofs.Forms.{is-fine}
+use Rattle.tree.specs.Contracts.{TellsEnd}
+use Rattle.tree.specs.Form.{andThen, isFine, fieldForm}
+use Rattle.tree.specs.declared.Form.{Form}
+use Rattle.tree.specs.declared.Form.the-variants.{Fine}
+use Rattle.tree.proofs.Forms.{is-fine, and-bad, form-in, field-fits, end-none, end-some}
 use Rattle.message.specs.Check.{noFinding, checkTold, checkMessage}
+use Rattle.message.specs.Nonstandard.{tailForm}
 use Rattle.message.specs.Kinds.{known, hasFields, typeOf}
-use Rattle.message.specs.Reader.{mostOctets, listRoom, standardAt, tailAt, refused, accepted, judged, readMessage}
-use Rattle.message.specs.Inner.{Shapes}
+use Rattle.tree.specs.Fields.{mostOctets}
+use Rattle.message.specs.Reader.{listRoom, standardAt, tailAt, refused, accepted, judged, readMessage}
 use Rattle.message.specs.declared.MessageCheck.{MessageCheck}
 use Rattle.message.specs.declared.MessageCheck.the-variants.{Parted, Malformed}
 use Rattle.message.specs.declared.Parts.{Parts}
-use Rattle.message.specs.declared.Shape.{Shape}
+use Rattle.message.proofs.Fields.{whole}
 use Rattle.message.proofs.Reading.{by-form, judged-bad, form-fields}
 
 -- a refusal gives its number
@@ -43,14 +47,50 @@ abbrev pub Due : List ℕ → Type 0
 Due l = (0 < length l) × (length l ≤ mostOctets) × (known (typeOf l) ≡ true) × (hasFields (typeOf l) ≡ true)
 
 -- which decides
-module _ (l : List ℕ) (due : Due l) (s : Shape) (t : Shapes l s) where
-  judged-whole : readMessage l listRoom ≡ judged (s .form)
-  judged-whole = by-form l listRoom (omega arith) (λ e. omega arith) (due .1) (due .2) ∙ ap judged (form-fields l (due .3) ∙ sym (t .formIs))
+module _ (l : List ℕ) (due : Due l) where
+  judged-whole : readMessage l listRoom ≡ judged (whole l)
+  judged-whole = by-form l listRoom (omega arith) (λ e. omega arith) (due .1) (due .2) ∙ ap judged (form-fields l (due .3))
 
-  pub broken-found : isFine (s .form) ≡ false → checkTold Malformed ≡ checkMessage l
-  broken-found b = refusal-found l 4 Malformed (judged-whole ∙ judged-bad (s .form) b) refl
+  broken-found : isFine (whole l) ≡ false → checkTold Malformed ≡ checkMessage l
+  broken-found b = refusal-found l 4 Malformed (judged-whole ∙ judged-bad (whole l) b) refl
 
-  pub fine-found : isFine (s .form) ≡ true → checkTold (Parted (record { kind = typeOf l; standard = s .standard; tail = s .tail })) ≡ checkMessage l
-  fine-found f =
-      let is = is-fine (s .form) f in
-      parts-found l _ (judged-whole ∙ ap judged is) refl (t .standardIs is) (t .tailIs is)
+  -- a field that ends nowhere is broken, and so is the message; else the field is fine
+  ends-nowhere : (at : ℕ) {r : ℕ} → TellsEnd l at r → r ≡ 0 → (g : Form) → isFine (andThen (fieldForm l at) g) ≡ false
+  ends-nowhere at t z g =
+      let b : isFine (fieldForm l at) ≡ false = ap isFine (sym (form-in l at (due .1))) ∙ end-none l at t z in
+      ap isFine (and-bad (fieldForm l at) g b) ∙ b
+
+  ends : (at : ℕ) {r : ℕ} → TellsEnd l at r → (r ≡ 0 → ⊥) → fieldForm l at ≡ Fine
+  ends at t n = is-fine (fieldForm l at) (ap isFine (sym (form-in l at (due .1))) ∙ end-some l at t n .0)
+
+  module _ {i : ℕ} (t : TellsEnd l 1 i) where
+    pub first-broken : i ≡ 0 → checkTold Malformed ≡ checkMessage l
+    first-broken z = broken-found (ends-nowhere 1 t z _)
+
+    module _ (some : i ≡ 0 → ⊥) where
+      standard-is : i ≡ standardAt l
+      standard-is = end-some l 1 t some .1
+
+      pub first-fits : 1 < length l
+      first-fits = omega (arith, field-fits l 1 (ends 1 t some))
+
+      module _ {j : ℕ} (u : TellsEnd l i j) where
+        second : TellsEnd l (standardAt l) j
+        second = rw standard-is at u
+
+        pub second-broken : j ≡ 0 → checkTold Malformed ≡ checkMessage l
+        second-broken z = broken-found (rw (ends 1 t some) (ends-nowhere (standardAt l) second z _))
+
+        -- what is behind S decides
+        module _ (more : j ≡ 0 → ⊥) {x : Form} (e : x ≡ tailForm l j) where
+          tail-is : j ≡ tailAt l
+          tail-is = end-some l (standardAt l) second more .1
+
+          whole-is : whole l ≡ x
+          whole-is = rw (ends 1 t some, ends (standardAt l) second more) (ap (tailForm l) (sym tail-is) ∙ sym e)
+
+          pub tail-broken : isFine x ≡ false → checkTold Malformed ≡ checkMessage l
+          tail-broken b = broken-found (ap isFine whole-is ∙ b)
+
+          pub all-fine : isFine x ≡ true → checkTold (Parted (record { kind = typeOf l; standard = i; tail = j })) ≡ checkMessage l
+          all-fine f = parts-found l _ (judged-whole ∙ ap judged (whole-is ∙ is-fine x f)) refl standard-is tail-is

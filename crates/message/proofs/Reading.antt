@@ -6,27 +6,31 @@ use mathlib.Core.Bool.{true, false}
 use mathlib.Core.List.{List, [], _++_}
 use borrow.Author.Tests.{le-ltb, lt-ltb, eq-eqb, ne-eqb}
 use lib.ListN.{length}
-use Rattle.octets.specs.Lay.{put}
+use Rattle.octets.specs.Lay.{over}
 use Rattle.tree.specs.Codes.{fieldBase, fieldCodes}
+use Rattle.tree.specs.Fields.{fours, mostOctets}
 use Rattle.tree.specs.Form.{isFine}
 use Rattle.tree.specs.declared.Form.{Form}
 use Rattle.tree.specs.declared.Form.the-variants.{Fine, Early, Wrong, Left, BadLength}
 use Rattle.message.specs.Kinds.{known, hasFields, typeOf, revisionOf}
-use Rattle.message.specs.Reader.{mostOctets, listRoom, standardAt, messageForm, messageCodes, nsPlace, nsSize, refused, accepted, judged, readMessage, refusal, readTold, Reads}
+use Rattle.message.specs.Reader.{listRoom, standardAt, messageForm, messageCodes, nsPlace, nsSize, refused, accepted, judged, readMessage, refusal, readTold}
+use Rattle.message.specs.Inner.{ReadsBoth}
 use Rattle.message.specs.declared.MessageRead.{MessageRead}
 use Rattle.message.specs.declared.MessageRead.the-variants.{Read}
 use Rattle.message.specs.declared.Span.{Span}
 use Rattle.message.proofs.Fields.{whole}
 
--- a refusal gives its number and leaves the list
-pub refuses : (l list : List ℕ) (k : ℕ) (r : MessageRead) → readMessage l (length list) ≡ refused k → readTold r ≡ refusal k → Reads l list r list
-refuses l list k r e t = record { reply = rw e t; list = rw e }
+-- a refusal gives its number and leaves the lists
+pub refuses : (l : List ℕ) (room : ℕ) (list octets : List ℕ) (k : ℕ) (r : MessageRead) → readMessage l room ≡ refused k → readTold r ≡ refusal k
+    → ReadsBoth l room list octets r list octets
+unfolding over fours
+refuses l room list octets k r e t = record { reply = rw e t; list = rw e; octets = rw e }
 
--- a well-formed message gives its type and revision, the number of its codes and the place of its NS, and leaves its codes in the list
-pub accepts : (l list₀ list₁ : List ℕ) (kind n : ℕ) (ns : Span) → readMessage l (length list₀) ≡ accepted → kind ≡ typeOf l → n ≡ length (messageCodes l)
-    → ns .at ≡ nsPlace l → ns .length ≡ nsSize l → list₁ ≡ put (messageCodes l) list₀
-    → Reads l list₀ (Read (record { kind = kind; revision = revisionOf l; count = n; ns = ns })) list₁
-accepts l list₀ list₁ kind n ns e k c p s h = record { reply = rw (e, k, c, p, s); list = rw e h }
+-- a well-formed message gives its type and revision, the number of its codes and the place of its NS, and leaves its codes in the lists
+pub accepts : (l : List ℕ) (room : ℕ) (list₀ octets₀ list₁ octets₁ : List ℕ) (kind n : ℕ) (ns : Span) → readMessage l room ≡ accepted → kind ≡ typeOf l
+    → n ≡ length (messageCodes l) → ns .at ≡ nsPlace l → ns .length ≡ nsSize l → list₁ ≡ over (messageCodes l) list₀ → octets₁ ≡ over (fours (messageCodes l)) octets₀
+    → ReadsBoth l room list₀ octets₀ (Read (record { kind = kind; revision = revisionOf l; count = n; ns = ns })) list₁ octets₁
+accepts l room list₀ octets₀ list₁ octets₁ kind n ns e k c p s h o = record { reply = rw (e, k, c, p, s); list = rw e h; octets = rw e o }
 
 -- ---- the checks
 

@@ -11,10 +11,10 @@ use lib.Seq.{take-all}
 use Rattle.octets.specs.Lay.{put, over}
 use Rattle.octets.proofs.Laying.{over-fits}
 use Rattle.tree.specs.Codes.{fieldCodes}
-use Rattle.tree.specs.Fields.{baseOf, codesIn}
+use Rattle.tree.specs.Fields.{baseOf, codesIn, mostOctets}
 use Rattle.tree.specs.declared.Field.{Field}
 use Rattle.tree.proofs.Few.{field-few}
-use Rattle.message.specs.Reader.{mostOctets, listRoom, standardAt}
+use Rattle.message.specs.Reader.{listRoom, standardAt}
 
 -- in a message's octets the codes are the field's
 pub codes-in : (f : Field) (l : List ℕ) (at : ℕ) → length l ≤ mostOctets → codesIn f l at ≡ fieldCodes (baseOf f) l at

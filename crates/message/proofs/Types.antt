@@ -6,10 +6,10 @@ use mathlib.Core.Bool.{Bool, true, false, not}
 use native.Mathlib.Numerals.{add-one}
 use native.Mathlib.Omega.{arith}
 use borrow.Author.Count.{below-none, below-more}
-use lib.Dec.{ltb}
+use lib.Dec.{ltb, leb}
 use Rattle.octets.specs.Places.{pick}
 use Rattle.tree.specs.Fields.{isIn}
-use Rattle.message.specs.Kinds.{known}
+use Rattle.message.specs.Kinds.{ms, ack2, nak1, nak4, known}
 
 -- whether two tests gave the same
 abbrev same : Bool → Bool → Bool
@@ -35,7 +35,7 @@ agreed f g (suc n) h =
     let s = same-is (f n) (g n) (agree f g n) h in
     rw (← add-one n) (below-more _ n (agreed f g n (s .1)) (s .0))
 
--- 1 to 5 and 8 to 11 are known, and no other
-pub known-by : (k : ℕ) → k < 256 → known k ≡ pick (ltb k 1) false (pick (ltb k 6) true (pick (ltb k 8) false (ltb k 12)))
+-- MS to ACK(2) and NAK(1) to NAK(4) are known, and no other
+pub known-by : (k : ℕ) → k < 256 → known k ≡ pick (ltb k ms) false (pick (leb k ack2) true (pick (ltb k nak1) false (leb k nak4)))
 unfolding isIn
-known-by = agreed known (λ k. pick (ltb k 1) false (pick (ltb k 6) true (pick (ltb k 8) false (ltb k 12)))) 256 refl
+known-by = agreed known (λ k. pick (ltb k ms) false (pick (leb k ack2) true (pick (ltb k nak1) false (leb k nak4)))) 256 refl

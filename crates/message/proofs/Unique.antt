@@ -6,12 +6,13 @@ use mathlib.Core.Bool.{Bool, true, false}
 use mathlib.Core.List.{List, []}
 use lib.Dec.{ltb, eqb}
 use lib.ListN.{length}
+use Rattle.octets.specs.Lay.{put}
 use Rattle.octets.specs.Places.{pick}
+use Rattle.octets.proofs.Laying.{put-nil}
 use Rattle.octets.proofs.Unique.{one-reply}
-use Rattle.tree.specs.declared.Form.{Form}
 use Rattle.message.specs.Check.{Finding, checkTold}
-use Rattle.message.specs.Reader.{Reading, refused, accepted, readMessage, Reply, readTold, readReply, readLeaves, Reads, spanTold, nsTold}
-use Rattle.message.specs.Contracts.{TellsKnown, TellsNsForm, Checks, TellsNs}
+use Rattle.message.specs.Reader.{Reading, refused, accepted, readMessage, Reply, readTold, readReply, codesRead, Reads, ReadsOctets, spanTold, nsTold}
+use Rattle.message.specs.Contracts.{Checks, TellsNs}
 use Rattle.message.specs.declared.MessageCheck.{MessageCheck}
 use Rattle.message.specs.declared.MessageCheck.the-variants.{Parted}
 use Rattle.message.specs.declared.MessageCheck.the-variants as check
@@ -34,10 +35,16 @@ back-told BadSize = refl
 back-told UnknownType = refl
 back-told Malformed = refl
 
--- `read_message`: two answers and lists that fit one message are the same
+-- two answers with one reply are the same
+answers-same : {x : Reply} {r r′ : MessageRead} → readTold r ≡ x → readTold r′ ≡ x → r ≡ r′
+answers-same {r = r} {r′} e e′ = sym (back-told r) ∙ ap back (one-reply e e′) ∙ back-told r′
+
+-- `read_message` and `read_octets`: two answers and lists that fit one message are the same
 pub read-unique : (l list₀ : List ℕ) (r r′ : MessageRead) (list₁ list₁′ : List ℕ) → Reads l list₀ r list₁ → Reads l list₀ r′ list₁′ → (r ≡ r′) × (list₁ ≡ list₁′)
-read-unique l list₀ r r′ list₁ list₁′ a b =
-    (sym (back-told r) ∙ ap back (one-reply (a .reply) (b .reply)) ∙ back-told r′, one-reply (a .list) (b .list))
+read-unique l list₀ r r′ list₁ list₁′ a b = (answers-same (a .reply) (b .reply), one-reply (a .list) (b .list))
+
+pub octets-unique : (l list₀ : List ℕ) (r r′ : MessageRead) (list₁ list₁′ : List ℕ) → ReadsOctets l list₀ r list₁ → ReadsOctets l list₀ r′ list₁′ → (r ≡ r′) × (list₁ ≡ list₁′)
+octets-unique l list₀ r r′ list₁ list₁′ a b = (answers-same (a .reply) (b .reply), one-reply (a .list) (b .list))
 
 -- the answer that a finding tells
 abbrev answer : Finding → MessageCheck
@@ -52,20 +59,16 @@ answer-told check.BadSize = refl
 answer-told check.UnknownType = refl
 answer-told check.Malformed = refl
 
--- two answers that tell the same are the same
-pub told-injective : (r r′ : MessageCheck) → checkTold r ≡ checkTold r′ → r ≡ r′
-told-injective r r′ e = sym (answer-told r) ∙ ap answer e ∙ answer-told r′
-
 -- `check_message`: two answers that fit one message are the same
 pub check-unique : (l : List ℕ) (r r′ : MessageCheck) → Checks l r → Checks l r′ → r ≡ r′
-check-unique l r r′ e e′ = told-injective r r′ (one-reply e e′)
+check-unique l r r′ e e′ = sym (answer-told r) ∙ ap answer (one-reply e e′) ∙ answer-told r′
 
 -- an answer that is not success leaves the list as it was
 pub refusal-writes-nothing : (l list₀ : List ℕ) (r : MessageRead) (list₁ : List ℕ) → Reads l list₀ r list₁ → (readTold r .no ≡ 0 → ⊥) → list₁ ≡ list₀
 refusal-writes-nothing l list₀ r list₁ a h = go (readMessage l (length list₀)) (a .reply) (a .list)
   where
-    go : (x : Reading) → readTold r ≡ readReply x l → list₁ ≡ readLeaves x l list₀ → list₁ ≡ list₀
-    go (refused k) p q = q
+    go : (x : Reading) → readTold r ≡ readReply x l → list₁ ≡ put (codesRead x l) list₀ → list₁ ≡ list₀
+    go (refused k) p q = q ∙ put-nil list₀
     go accepted p q = absurd (h (ap (λ (y : Reply). y .no) p))
 
 -- where an answer tells of no octet, there is no NS
@@ -89,12 +92,6 @@ refusal-ns-empty r l h = ns-none r l (go r h)
     go UnknownType h = refl
     go Malformed h = refl
 
--- `is_known`, `ns_form`, and of `ns_part` the octets: each ensures that its reply is one value
-pub known-unique : (kind : ℕ) (r r′ : Bool) → TellsKnown kind r → TellsKnown kind r′ → r ≡ r′
-known-unique kind r r′ = one-reply
-
-pub ns-form-unique : (l : List ℕ) (start : ℕ) (r r′ : Form) → TellsNsForm l start r → TellsNsForm l start r′ → r ≡ r′
-ns-form-unique l start r r′ = one-reply
-
+-- `ns_part`: its octets are one value
 pub ns-part-unique : (l : List ℕ) (answer : MessageRead) (r r′ : List ℕ) → TellsNs l answer r → TellsNs l answer r′ → r ≡ r′
 ns-part-unique l answer r r′ = one-reply

@@ -1,5 +1,5 @@
 -- To be believed: what each public function promises, in the words that its `ensures` and the demands cite.
--- What `read_message` promises is `Reads`, of Reader.
+-- What `read_message` and `read_octets` promise is `Reads` and `ReadsOctets`, of Reader.
 -- Assumes nothing.
 use Prim.Native.Nat.{ℕ}
 use mathlib.Core.Bool.{Bool}
@@ -7,7 +7,7 @@ use mathlib.Core.List.{List}
 use mathlib.Core.Path.{_≡_}
 use lib.ListN.{length}
 use Rattle.tree.specs.declared.Form.{Form}
-use Rattle.message.specs.Kinds.{known}
+use Rattle.message.specs.Kinds.{known, hasFields}
 use Rattle.message.specs.Nonstandard.{nsForm}
 use Rattle.message.specs.Reader.{nsTold}
 use Rattle.message.specs.Check.{checkTold, checkMessage}
@@ -17,6 +17,10 @@ use Rattle.message.specs.declared.MessageRead.{MessageRead}
 -- is_known
 abbrev pub TellsKnown : ℕ → Bool → Type 0
 TellsKnown kind r = r ≡ known kind
+
+-- has_fields
+abbrev pub TellsFields : ℕ → Bool → Type 0
+TellsFields kind r = r ≡ hasFields kind
 
 -- ns_form
 abbrev pub TellsNsForm : List ℕ → ℕ → Form → Type 0

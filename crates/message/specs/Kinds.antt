@@ -7,13 +7,40 @@ use lib.Dec.{ltb}
 use lib.ListN.{getD}
 use Rattle.tree.specs.Fields.{isIn}
 
--- MS 1, CL 2, CLR 3, ACK(1) 4, ACK(2) 5, NAK(1) to NAK(4) 8 to 11
+-- the types that are used here
+abbrev pub ms : ℕ
+ms = 1
+
+abbrev pub cl : ℕ
+cl = 2
+
+abbrev pub clr : ℕ
+clr = 3
+
+abbrev pub ack1 : ℕ
+ack1 = 4
+
+abbrev pub ack2 : ℕ
+ack2 = 5
+
+abbrev pub nak1 : ℕ
+nak1 = 8
+
+abbrev pub nak2 : ℕ
+nak2 = 9
+
+abbrev pub nak3 : ℕ
+nak3 = 10
+
+abbrev pub nak4 : ℕ
+nak4 = 11
+
 abbrev pub known : ℕ → Bool
-known k = isIn k (1 ∷ 2 ∷ 3 ∷ 4 ∷ 5 ∷ 8 ∷ 9 ∷ 10 ∷ 11 ∷ [])
+known k = isIn k (ms ∷ cl ∷ clr ∷ ack1 ∷ ack2 ∷ nak1 ∷ nak2 ∷ nak3 ∷ nak4 ∷ [])
 
 -- of the known types, MS, CL and CLR have fields; ACK and NAK end behind octet 1
 abbrev pub hasFields : ℕ → Bool
-hasFields k = ltb k 4
+hasFields k = ltb k ack1
 
 abbrev pub typeOf : List ℕ → ℕ
 typeOf l = getD l 0 0 % 16

@@ -1,6 +1,6 @@
 -- To be believed: what the message reader answers, by the rules' numbers, and what it leaves in the list.
 -- Assumes nothing.
-use Prim.Native.Nat.{ℕ, _-_}
+use Prim.Native.Nat.{ℕ, _-_, _/_}
 use mathlib.Core.Bool.{Bool, true, false, not}
 use mathlib.Core.List.{List, [], _++_}
 use mathlib.Core.Path.{_≡_}
@@ -9,6 +9,7 @@ use lib.ListN.{length, take, drop}
 use Rattle.octets.specs.Lay.{put}
 use Rattle.octets.specs.Places.{pick}
 use Rattle.tree.specs.Codes.{fieldBase, fieldCodes, fieldBehind}
+use Rattle.tree.specs.Fields.{mostOctets, fours}
 use Rattle.tree.specs.Form.{andThen, fieldForm}
 use Rattle.tree.specs.declared.Form.{Form}
 use Rattle.tree.specs.declared.Form.the-variants.{Fine, Early, Wrong, Left, BadLength}
@@ -18,9 +19,6 @@ use Rattle.message.specs.declared.Message.{Message}
 use Rattle.message.specs.declared.Span.{Span}
 use Rattle.message.specs.declared.MessageRead.{MessageRead}
 use Rattle.message.specs.declared.MessageRead.the-variants.{Read, SmallList, BadSize, UnknownType, Malformed}
-
-abbrev pub mostOctets : ℕ
-mostOctets = 64
 
 abbrev pub listRoom : ℕ
 listRoom = 448
@@ -107,15 +105,24 @@ readReply (refused k) l = refusal k
 readReply accepted l =
     record { no = 0; kind = typeOf l; revision = revisionOf l; count = length (messageCodes l); nsAt = nsPlace l; nsLength = nsSize l }
 
--- the list: a refusal writes nothing, success the codes and nothing behind them
-abbrev pub readLeaves : Reading → List ℕ → List ℕ → List ℕ
-readLeaves (refused k) l list = list
-readLeaves accepted l list = put (messageCodes l) list
+-- the codes that are stored: a refusal writes nothing
+abbrev pub codesRead : Reading → List ℕ → List ℕ
+codesRead (refused k) l = []
+codesRead accepted l = messageCodes l
 
--- the reply r and the list list₁ are those of reading the message l into list₀
+-- the reply r and the list list₁ are those of reading the message l into list₀: the codes, and nothing behind them
 pub record Reads (l list₀ : List ℕ) (r : MessageRead) (list₁ : List ℕ) : Type 0 where
   pub reply : readTold r ≡ readReply (readMessage l (length list₀)) l
-  pub list : list₁ ≡ readLeaves (readMessage l (length list₀)) l list₀
+  pub list : list₁ ≡ put (codesRead (readMessage l (length list₀)) l) list₀
+
+-- how many numbers a list of octets has room for
+abbrev pub roomOf : List ℕ → ℕ
+roomOf list = length list / 4
+
+-- the same with a list of octets, four to a code
+pub record ReadsOctets (l list₀ : List ℕ) (r : MessageRead) (list₁ : List ℕ) : Type 0 where
+  pub reply : readTold r ≡ readReply (readMessage l (roomOf list₀)) l
+  pub list : list₁ ≡ put (fours (codesRead (readMessage l (roomOf list₀)) l)) list₀
 
 -- where an answer says that NS lies
 abbrev pub spanTold : MessageRead → Span

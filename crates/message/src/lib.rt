@@ -6,16 +6,34 @@ ghost use lib.ListN.{length};
 ghost use Rattle.octets.specs.Places.{pick};
 ghost use Rattle.message.specs.Kinds.{known, hasFields, typeOf};
 ghost use Rattle.message.specs.Nonstandard.{nsAnnounced, tailForm};
-ghost use Rattle.message.specs.Reader.{mostOctets, listRoom, Reads, spanTold};
-ghost use Rattle.message.specs.Inner.{Shapes};
-ghost use Rattle.message.specs.Contracts.{TellsKnown, TellsNsForm, Checks, TellsNs};
-use fill::fill_codes;
-use tree::Field;
+ghost use Rattle.tree.specs.Fields.{mostOctets};
+ghost use Rattle.message.specs.Reader.{listRoom, Reads, ReadsOctets, spanTold};
+ghost use Rattle.message.specs.Inner.{ReadsBoth};
+ghost use Rattle.message.specs.Contracts.{TellsKnown, TellsFields, TellsNsForm, Checks, TellsNs};
+use fill::fill_fields;
 use tree::Form;
-use tree::field_form;
+use tree::MOST_OCTETS;
+use tree::field_end;
 use tree::is_fine;
 
-const MOST_OCTETS: usize = 64;
+// The types of messages (V.8 bis, Table 3), of which those before ACK(1) have fields.
+pub const MS: u8 = 1;
+
+pub const CL: u8 = 2;
+
+pub const CLR: u8 = 3;
+
+pub const ACK_1: u8 = 4;
+
+pub const ACK_2: u8 = 5;
+
+pub const NAK_1: u8 = 8;
+
+pub const NAK_2: u8 = 9;
+
+pub const NAK_3: u8 = 10;
+
+pub const NAK_4: u8 = 11;
 
 const LIST_ROOM: usize = 448;
 
@@ -50,16 +68,23 @@ pub enum MessageRead {
 pub fn is_known(kind: u8) -> bool
     ensures { λ r. ⌜ TellsKnown kind r ⌝ }
 {
-    if kind < 1 {
+    if kind < MS {
         return false;
     }
-    if kind < 6 {
+    if kind <= ACK_2 {
         return true;
     }
-    if kind < 8 {
+    if kind < NAK_1 {
         return false;
     }
-    kind < 12
+    kind <= NAK_4
+}
+
+// Whether a known type has fields.
+pub fn has_fields(kind: u8) -> bool
+    ensures { λ r. ⌜ TellsFields kind r ⌝ }
+{
+    kind < ACK_1
 }
 
 // The form of the NS blocks from a place on. One is due there.
@@ -101,45 +126,6 @@ fn tail_form(s: &[u8], e: usize) -> Form
     Form::Left(e)
 }
 
-// The form of a message with fields, and the places where S and what is behind it begin.
-pub struct Shape {
-    pub form: Form,
-    pub standard: usize,
-    pub tail: usize,
-}
-
-// The first rule that a message with fields breaks, and where its parts begin.
-fn fields_form(s: &[u8]) -> Shape
-    requires { ⌜ length (now s) ≤ 64 ⌝ }
-    ensures { λ r. ⌜ Shapes (now (s .entry)) r ⌝ }
-{
-    let identification = field_form(s, 1);
-    let first = identification.form;
-    let standard = identification.at;
-    if !is_fine(first) {
-        return Shape {
-            form: first,
-            standard,
-            tail: standard,
-        };
-    }
-    let second = field_form(s, standard);
-    let form = second.form;
-    let tail = second.at;
-    if !is_fine(form) {
-        return Shape {
-            form,
-            standard,
-            tail,
-        };
-    }
-    Shape {
-        form: tail_form(s, tail),
-        standard,
-        tail,
-    }
-}
-
 // The NS of a well-formed message, which begins at a place if there is one.
 fn ns_span(s: &[u8], tail: usize) -> Span
     requires { ⌜ (1 < length (now s)) × (tail ≤ length (now s)) ⌝ }
@@ -169,20 +155,27 @@ pub enum MessageCheck {
     Malformed,
 }
 
-// A message with fields: its form decides.
+// A message with fields: I, then S, then what is behind S decides. Asked only for the ends of the fields, the back end keeps no form
+// of theirs on the stack.
 fn check_fields(s: &[u8]) -> MessageCheck
     requires { ⌜ (0 < length (now s)) × (length (now s) ≤ mostOctets) × (known (typeOf (now s)) ≡ true) × (hasFields (typeOf (now s)) ≡ true) ⌝ }
     ensures { λ r. ⌜ Checks (now (s .entry)) r ⌝ }
 {
-    let shape = fields_form(s);
-    let form = shape.form;
-    if !is_fine(form) {
+    let standard = field_end(s, 1);
+    if standard == 0 {
+        return MessageCheck::Malformed;
+    }
+    let tail = field_end(s, standard);
+    if tail == 0 {
+        return MessageCheck::Malformed;
+    }
+    if !is_fine(tail_form(s, tail)) {
         return MessageCheck::Malformed;
     }
     MessageCheck::Parted(Parts {
         kind: s[0] % 16,
-        standard: shape.standard,
-        tail: shape.tail,
+        standard,
+        tail,
     })
 }
 
@@ -200,7 +193,7 @@ pub fn check_message(s: &[u8]) -> MessageCheck
     if !is_known(kind) {
         return MessageCheck::UnknownType;
     }
-    if kind < 4 {
+    if has_fields(kind) {
         return check_fields(s);
     }
     if s.len() != 1 {
@@ -213,14 +206,14 @@ pub fn check_message(s: &[u8]) -> MessageCheck
     })
 }
 
-// Reads a well-formed message, whose parts are known: its codes into the list.
-fn read_parts(s: &[u8], parts: Parts, list: &mut [u32]) -> MessageRead
-    requires { ⌜ (Checks (now s) (MessageCheck.Parted parts)) × (listRoom ≤ length (now list)) ⌝ }
-    ensures { λ r. ⌜ Reads (now (s .entry)) (now (list .entry)) r (now (list .exit)) ⌝ }
+// Reads a well-formed message, whose parts are known: its codes into both lists.
+fn read_parts(s: &[u8], parts: Parts, list: &mut [u32], octets: &mut [u8]) -> MessageRead
+    requires { ⌜ Checks (now s) (MessageCheck.Parted parts) ⌝ }
+    ensures { λ r. ⌜ ReadsBoth (now (s .entry)) listRoom (now (list .entry)) (now (octets .entry)) r (now (list .exit)) (now (octets .exit)) ⌝ }
 {
     let kind = parts.kind;
     let revision = s[0] / 16;
-    if 4 <= kind {
+    if !has_fields(kind) {
         return MessageRead::Read(Message {
             kind,
             revision,
@@ -228,30 +221,47 @@ fn read_parts(s: &[u8], parts: Parts, list: &mut [u32]) -> MessageRead
             ns: Span { at: 0, length: 0 },
         });
     }
-    let n = fill_codes(s, 1, Field::Identification, list);
-    let k = fill_codes(s, parts.standard, Field::Standard, &mut list[n..]);
+    let count = fill_fields(s, 1, parts.standard, list, octets);
     let ns = ns_span(s, parts.tail);
     MessageRead::Read(Message {
         kind,
         revision,
-        count: n + k,
+        count,
         ns,
     })
+}
+
+// Reads a message into both lists, with room for so many numbers: the caller lends an empty one for the form that it does not want.
+fn read_both(s: &[u8], room: usize, list: &mut [u32], octets: &mut [u8]) -> MessageRead
+    ensures { λ r. ⌜ ReadsBoth (now (s .entry)) room (now (list .entry)) (now (octets .entry)) r (now (list .exit)) (now (octets .exit)) ⌝ }
+{
+    if room < LIST_ROOM {
+        return MessageRead::SmallList;
+    }
+    match check_message(s) {
+        MessageCheck::Parted(parts) => read_parts(s, parts, list, octets),
+        MessageCheck::BadSize => MessageRead::BadSize,
+        MessageCheck::UnknownType => MessageRead::UnknownType,
+        MessageCheck::Malformed => MessageRead::Malformed,
+    }
 }
 
 // The message reader: it fills the first numbers of the list with the message's codes, in ascending order.
 pub fn read_message(s: &[u8], list: &mut [u32]) -> MessageRead
     ensures { λ r. ⌜ Reads (now (s .entry)) (now (list .entry)) r (now (list .exit)) ⌝ }
 {
-    if list.len() < LIST_ROOM {
-        return MessageRead::SmallList;
-    }
-    match check_message(s) {
-        MessageCheck::Parted(parts) => read_parts(s, parts, list),
-        MessageCheck::BadSize => MessageRead::BadSize,
-        MessageCheck::UnknownType => MessageRead::UnknownType,
-        MessageCheck::Malformed => MessageRead::Malformed,
-    }
+    let room = list.len();
+    let mut none = [0u8; 0];
+    read_both(s, room, list, &mut none)
+}
+
+// The same into a list of octets, four to a code, lowest first.
+pub fn read_octets(s: &[u8], list: &mut [u8]) -> MessageRead
+    ensures { λ r. ⌜ ReadsOctets (now (s .entry)) (now (list .entry)) r (now (list .exit)) ⌝ }
+{
+    let room = list.len() / 4;
+    let mut none = [0u32; 0];
+    read_both(s, room, &mut none, list)
 }
 
 // Where an answer says that NS lies; a refusal says nowhere.

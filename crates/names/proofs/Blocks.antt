@@ -8,6 +8,7 @@ use mathlib.Core.Path.{_≡_, refl, sym, ap}
 use native.Mathlib.Omega.{arith}
 use borrow.Author.Tests.{eqb-true, ne-eqb, lt-leb, le-ltb}
 use lib.Dec.{ltb, leb, eqb}
+use Rattle.tree.specs.Codes.{ofS}
 use Rattle.octets.specs.Bits.{num}
 use Rattle.octets.specs.Places.{pick}
 use Rattle.names.specs.Tables.{Row, Block, nparBlocks}
@@ -49,11 +50,11 @@ mask-zero f t bs c h e =
     ⊎-elim (λ n. rw n) (λ p. sym (eqb-true (maskOf f (rowsUnder c bs)) 0 (rw e at p))) (under-every (λ x rows. pick (t x) true (eqb (maskOf f rows) 0)) bs c h)
 
 -- below S, NPar blocks stand under 1.0.0.0 and 1.1.0.0 only
-pub mask-low : (f : Row → Bool) (c : ℕ) → (c / 262144 ≡ 512 → ⊥) → (c / 262144 ≡ 513 → ⊥) → c / 262144 < 1024 → 0 ≡ maskOf f (rowsUnder c nparBlocks)
+pub mask-low : (f : Row → Bool) (c : ℕ) → (c / ofS ≡ 512 → ⊥) → (c / ofS ≡ 513 → ⊥) → c / ofS < 1024 → 0 ≡ maskOf f (rowsUnder c nparBlocks)
 unfolding every
 mask-low f c h k l =
-    mask-zero f (λ x. pick (eqb (x / 262144) 512) true (pick (eqb (x / 262144) 513) true (leb 1024 (x / 262144)))) nparBlocks c refl
-    (rw (ne-eqb (c / 262144) 512 h, ne-eqb (c / 262144) 513 k, lt-leb 1024 (c / 262144) l))
+    mask-zero f (λ x. pick (eqb (x / ofS) 512) true (pick (eqb (x / ofS) 513) true (leb 1024 (x / ofS)))) nparBlocks c refl
+    (rw (ne-eqb (c / ofS) 512 h, ne-eqb (c / ofS) 513 k, lt-leb 1024 (c / ofS) l))
 
 -- and where none that stands under b or above has bits, no such code has
 pub mask-high : (f : Row → Bool) (b c : ℕ) → every (λ x rows. pick (ltb x b) true (eqb (maskOf f rows) 0)) nparBlocks ≡ true → b ≤ c

@@ -10,7 +10,7 @@ use borrow.Author.Tests.{ltb-false, eqb-true}
 use lib.Dec.{ltb, eqb}
 use Rattle.octets.specs.Bits.{num}
 use Rattle.octets.specs.Places.{pick}
-use Rattle.writer.specs.Meaning.{sOf, tOf, nOf, parentOf}
+use Rattle.tree.specs.Codes.{sOf, tOf, nOf, parentOf, ofF, ofS}
 use Rattle.names.specs.Tables.{Row, Block, nparBlocks, sparBlocks}
 use Rattle.names.specs.Named.{rowsUnder, rowAt, nparRow, sparRow, rowOf, standardCode, keepsRow, keeps}
 use Rattle.names.specs.declared.Keep.{Keep}
@@ -21,7 +21,7 @@ use Rattle.names.proofs.Strictness.{keeps-standard}
 
 -- what a block stands under: a field, or a code that is standard
 abbrev fit : ℕ → List Row → Bool
-fit c rows = pick (eqb (c % 134217728) 0) true (standardCode c)
+fit c rows = pick (eqb (c % ofF) 0) true (standardCode c)
 
 npar-fit : every fit nparBlocks ≡ true
 unfolding every rowsUnder rowAt rowOf
@@ -33,48 +33,48 @@ spar-fit = refl
 
 -- so a code is kept if a row of a block under it is
 under-kept : (k : Keep) (bs : List Block) (c q : ℕ) → every fit bs ≡ true → keepsRow k (rowAt (rowsUnder c bs) q) ≡ true
-    → (c % 134217728 ≡ 0) ⊎ (keeps k c ≡ true)
+    → (c % ofF ≡ 0) ⊎ (keeps k c ≡ true)
 unfolding rowAt
-under-kept k bs c q h e = ⊎-elim (λ n. none k (rw n at e)) (λ p. some (eqb (c % 134217728) 0) refl p) (under-every fit bs c h)
+under-kept k bs c q h e = ⊎-elim (λ n. none k (rw n at e)) (λ p. some (eqb (c % ofF) 0) refl p) (under-every fit bs c h)
   where
-    none : (j : Keep) → keepsRow j (rowAt [] q) ≡ true → (c % 134217728 ≡ 0) ⊎ (keeps j c ≡ true)
+    none : (j : Keep) → keepsRow j (rowAt [] q) ≡ true → (c % ofF ≡ 0) ⊎ (keeps j c ≡ true)
     none All d = inr refl
     none Named d = absurd (omega (arith, ap num d))
     none Standard d = absurd (omega (arith, ap num d))
 
-    some : (t : Bool) → eqb (c % 134217728) 0 ≡ t → pick t true (standardCode c) ≡ true → (c % 134217728 ≡ 0) ⊎ (keeps k c ≡ true)
-    some true d p = inl (eqb-true (c % 134217728) 0 d)
+    some : (t : Bool) → eqb (c % ofF) 0 ≡ t → pick t true (standardCode c) ≡ true → (c % ofF ≡ 0) ⊎ (keeps k c ≡ true)
+    some true d p = inl (eqb-true (c % ofF) 0 d)
     some false d p = inr (keeps-standard k c p)
 
 -- what stands under a code that is no field's own is kept only if that code is: of its NPar positions, and of its SPar(2) positions
-pub npar-parent : (k : Keep) (c q : ℕ) → c % 512 ≡ 0 → 0 < c % 134217728 → 0 < q → q < 512 → keeps k (c + q) ≡ true → keeps k c ≡ true
+pub npar-parent : (k : Keep) (c q : ℕ) → c % 512 ≡ 0 → 0 < c % ofF → 0 < q → q < 512 → keeps k (c + q) ≡ true → keeps k c ≡ true
 npar-parent k c q a s p h e =
     ⊎-elim (λ z. absurd (omega arith)) (λ d. d) (under-kept k nparBlocks c q npar-fit (sym (ap (keepsRow k) (row-npar c q a p h)) ∙ e))
 
-pub spar-parent : (k : Keep) (c q : ℕ) → c % 262144 ≡ 0 → 0 < c % 134217728 → 0 < q → q < 512 → keeps k (c + q * 512) ≡ true → keeps k c ≡ true
+pub spar-parent : (k : Keep) (c q : ℕ) → c % ofS ≡ 0 → 0 < c % ofF → 0 < q → q < 512 → keeps k (c + q * 512) ≡ true → keeps k c ≡ true
 spar-parent k c q a s p h e =
     ⊎-elim (λ z. absurd (omega arith)) (λ d. d) (under-kept k sparBlocks c q spar-fit (sym (ap (keepsRow k) (row-spar2 c q a p h)) ∙ e))
 
 -- with neither n nor t, a code is its own parent
-own-parent : (c : ℕ) → nOf c ≤ 0 → tOf c ≤ 0 → c - c % 262144 ≡ c
+own-parent : (c : ℕ) → nOf c ≤ 0 → tOf c ≤ 0 → c - c % ofS ≡ c
 own-parent c n t =
     let low : c ≡ c / 512 * 512 = omega arith in
     let high : c / 512 ≡ c / 512 / 512 * 512 = omega arith in
     omega arith
 
 -- a kept code stands under none, or what it stands under is kept
-pub kept-parent : (k : Keep) (c : ℕ) → keeps k c ≡ true → (parentOf c ≡ c) ⊎ ((parentOf c % 134217728 ≡ 0) ⊎ (keeps k (parentOf c) ≡ true))
+pub kept-parent : (k : Keep) (c : ℕ) → keeps k c ≡ true → (parentOf c ≡ c) ⊎ ((parentOf c % ofF ≡ 0) ⊎ (keeps k (parentOf c) ≡ true))
 unfolding rowOf
 kept-parent k c kept = npar (ltb 0 (nOf c)) refl kept
   where
-    spar : (t : Bool) → nOf c ≤ 0 → ltb 0 (tOf c) ≡ t → keepsRow k (pick t (sparRow (c - c % 262144) (tOf c)) (sparRow (c - c % 134217728) (sOf c))) ≡ true
-        → (c - c % 262144 ≡ c) ⊎ (((c - c % 262144) % 134217728 ≡ 0) ⊎ (keeps k (c - c % 262144) ≡ true))
-    spar true n d e = inr (under-kept k sparBlocks (c - c % 262144) (tOf c) spar-fit e)
+    spar : (t : Bool) → nOf c ≤ 0 → ltb 0 (tOf c) ≡ t → keepsRow k (pick t (sparRow (c - c % ofS) (tOf c)) (sparRow (c - c % ofF) (sOf c))) ≡ true
+        → (c - c % ofS ≡ c) ⊎ (((c - c % ofS) % ofF ≡ 0) ⊎ (keeps k (c - c % ofS) ≡ true))
+    spar true n d e = inr (under-kept k sparBlocks (c - c % ofS) (tOf c) spar-fit e)
     spar false n d e = inl (own-parent c n (ltb-false 0 (tOf c) d))
 
     npar : (t : Bool) → ltb 0 (nOf c) ≡ t
-        → keepsRow k (pick t (nparRow (c - c % 512) (nOf c)) (pick (ltb 0 (tOf c)) (sparRow (c - c % 262144) (tOf c)) (sparRow (c - c % 134217728) (sOf c)))) ≡ true
-        → (pick t (c - c % 512) (c - c % 262144) ≡ c)
-        ⊎ ((pick t (c - c % 512) (c - c % 262144) % 134217728 ≡ 0) ⊎ (keeps k (pick t (c - c % 512) (c - c % 262144)) ≡ true))
+        → keepsRow k (pick t (nparRow (c - c % 512) (nOf c)) (pick (ltb 0 (tOf c)) (sparRow (c - c % ofS) (tOf c)) (sparRow (c - c % ofF) (sOf c)))) ≡ true
+        → (pick t (c - c % 512) (c - c % ofS) ≡ c)
+        ⊎ ((pick t (c - c % 512) (c - c % ofS) % ofF ≡ 0) ⊎ (keeps k (pick t (c - c % 512) (c - c % ofS)) ≡ true))
     npar true d e = inr (under-kept k nparBlocks (c - c % 512) (nOf c) npar-fit e)
     npar false d e = spar (ltb 0 (tOf c)) (ltb-false 0 (nOf c) d) refl e

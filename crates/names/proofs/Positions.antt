@@ -7,7 +7,7 @@ use mathlib.Core.List.{List, [], _∷_, _++_}
 use mathlib.Core.Path.{_≡_, refl}
 use Rattle.octets.specs.Places.{pick}
 use Rattle.tree.specs.Codes.{codeOf}
-use Rattle.writer.proofs.Trees.{shift}
+use Rattle.tree.proofs.Numbering.{shift}
 use Rattle.names.specs.Tables.{Block, nparBlocks}
 use Rattle.names.specs.Named.{rowsUnder, rowAt, rowOf, namedCode, standardCode}
 use Rattle.names.specs.Masks.{only}

@@ -8,6 +8,7 @@ use native.Mathlib.Nat.{zero-div, div-one}
 use native.Mathlib.Omega.{arith}
 use borrow.Author.Tests.{lt-ltb}
 use lib.Pow.{shr-shr}
+use Rattle.tree.specs.Codes.{ofF, ofS}
 use Rattle.octets.specs.Bits.{num, odd}
 use Rattle.octets.proofs.Digits.{num-lt}
 use Rattle.names.specs.Tables.{Row, named, nonStandard, reserved, nparBlocks, sparBlocks}
@@ -70,27 +71,27 @@ row-npar c q a p h =
     let b : c + q - q ≡ c = omega arith in
     rw (n, lt-ltb 0 q p, b)
 
-pub row-spar1 : (b q : ℕ) → b % 134217728 ≡ 0 → q < 512 → rowOf (b + q * 262144) ≡ sparRow b q
+pub row-spar1 : (b q : ℕ) → b % ofF ≡ 0 → q < 512 → rowOf (b + q * ofS) ≡ sparRow b q
 unfolding rowOf
 row-spar1 b q a h =
-    let c = b + q * 262144 in
-    let m = b / 134217728 in
-    let high : c / 262144 ≡ m * 512 + q = omega arith in
+    let c = b + q * ofS in
+    let m = b / ofF in
+    let high : c / ofS ≡ m * 512 + q = omega arith in
     let low : c / 512 ≡ (m * 512 + q) * 512 = omega arith in
     let n : c % 512 ≡ 0 = omega arith in
     let t : c / 512 % 512 ≡ 0 = rw low (omega arith) in
-    let s : c / 262144 % 512 ≡ q = rw high (omega arith) in
-    let u : c - c % 134217728 ≡ b = omega arith in
+    let s : c / ofS % 512 ≡ q = rw high (omega arith) in
+    let u : c - c % ofF ≡ b = omega arith in
     rw (n, t, s, u)
 
-pub row-spar2 : (c q : ℕ) → c % 262144 ≡ 0 → 0 < q → q < 512 → rowOf (c + q * 512) ≡ sparRow c q
+pub row-spar2 : (c q : ℕ) → c % ofS ≡ 0 → 0 < q → q < 512 → rowOf (c + q * 512) ≡ sparRow c q
 unfolding rowOf
 row-spar2 c q a p h =
     let d = c + q * 512 in
-    let high : d / 512 ≡ c / 262144 * 512 + q = omega arith in
+    let high : d / 512 ≡ c / ofS * 512 + q = omega arith in
     let n : d % 512 ≡ 0 = omega arith in
     let t : d / 512 % 512 ≡ q = rw high (omega arith) in
-    let u : d - d % 262144 ≡ c = omega arith in
+    let u : d - d % ofS ≡ c = omega arith in
     rw (n, t, lt-ltb 0 q p, u)
 
 -- so a position is kept exactly if its code is
@@ -98,10 +99,10 @@ pub keeps-npar : (k : Keep) (c q : ℕ) → c % 512 ≡ 0 → 0 < q → q < 512 
 unfolding nparPlaces
 keeps-npar k c q a p h = kept-place k (rowsUnder c nparBlocks) q p ∙ ap (keepsRow k) (sym (row-npar c q a p h))
 
-pub keeps-spar1 : (k : Keep) (b q : ℕ) → b % 134217728 ≡ 0 → 0 < q → q < 512 → keptPlace (sparPlaces k b) q ≡ keeps k (b + q * 262144)
+pub keeps-spar1 : (k : Keep) (b q : ℕ) → b % ofF ≡ 0 → 0 < q → q < 512 → keptPlace (sparPlaces k b) q ≡ keeps k (b + q * ofS)
 unfolding sparPlaces
 keeps-spar1 k b q a p h = kept-place k (rowsUnder b sparBlocks) q p ∙ ap (keepsRow k) (sym (row-spar1 b q a h))
 
-pub keeps-spar2 : (k : Keep) (c q : ℕ) → c % 262144 ≡ 0 → 0 < q → q < 512 → keptPlace (sparPlaces k c) q ≡ keeps k (c + q * 512)
+pub keeps-spar2 : (k : Keep) (c q : ℕ) → c % ofS ≡ 0 → 0 < q → q < 512 → keptPlace (sparPlaces k c) q ≡ keeps k (c + q * 512)
 unfolding sparPlaces
 keeps-spar2 k c q a p h = kept-place k (rowsUnder c sparBlocks) q p ∙ ap (keepsRow k) (sym (row-spar2 c q a p h))

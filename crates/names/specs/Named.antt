@@ -6,7 +6,7 @@ use mathlib.Core.Bool.{Bool, true, false}
 use mathlib.Core.List.{List, [], _∷_}
 use lib.Dec.{ltb, eqb}
 use Rattle.octets.specs.Places.{pick}
-use Rattle.writer.specs.Meaning.{sOf, tOf, nOf}
+use Rattle.tree.specs.Codes.{ofT, ofS, ofF, sOf, tOf, nOf}
 use Rattle.names.specs.Tables.{Row, named, nonStandard, reserved, Block, nparBlocks, sparBlocks}
 use Rattle.names.specs.declared.Keep.{Keep}
 use Rattle.names.specs.declared.Keep.the-variants.{All, Named, Standard}
@@ -32,9 +32,9 @@ sparRow c q = rowAt (rowsUnder c sparBlocks) q
 -- the row of a code: of an NPar with n, else of an SPar(2) with t, else of an SPar(1)
 unfoldable pub rowOf : ℕ → Row
 rowOf c =
-    pick (ltb 0 (nOf c)) (nparRow (c - c % 512) (nOf c))
-    (pick (ltb 0 (tOf c)) (sparRow (c - c % 262144) (tOf c))
-    (sparRow (c - c % 134217728) (sOf c)))
+    pick (ltb 0 (nOf c)) (nparRow (c - c % ofT) (nOf c))
+    (pick (ltb 0 (tOf c)) (sparRow (c - c % ofS) (tOf c))
+    (sparRow (c - c % ofF) (sOf c)))
 
 abbrev pub isNamed : Row → Bool
 isNamed named = true

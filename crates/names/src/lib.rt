@@ -8,9 +8,15 @@ ghost use Rattle.names.specs.Named.{rowsUnder, isNamed};
 ghost use Rattle.names.specs.Masks.{maskOf};
 ghost use Rattle.names.specs.Inner.{isNonStandard};
 ghost use Rattle.names.specs.Contracts.{TellsNparPlaces, TellsSparPlaces};
+use tree::IDENTIFICATION;
+use tree::OF_S;
+use tree::OF_T;
+use tree::STANDARD;
 
-// The SPar(1) positions of I begin at 512, those of S at 1024, in units of a code's s.
-const STANDARD: u32 = 1024;
+// The SPar(1) of I stand above this, those of S above the other, counted in a code's s.
+const IN_I: u32 = IDENTIFICATION / OF_S;
+
+const IN_S: u32 = STANDARD / OF_S;
 
 // What is kept of a field: all, the named parameters, or those of them that are no non-standard bits.
 pub enum Keep {
@@ -48,13 +54,13 @@ fn standard_names(s: u32) -> u32
 fn npar_names(under: u32) -> u32
     ensures { λ r. ⌜ r ≡ maskOf isNamed (rowsUnder under nparBlocks) ⌝ }
 {
-    let group = under / 262144;
-    let below = under % 262144;
-    if below == 512 {
-        if group == STANDARD + 3 {
+    let group = under / OF_S;
+    let below = under % OF_S;
+    if below == OF_T {
+        if group == IN_S + 3 {
             return 0x7F;
         }
-        if group == STANDARD + 8 {
+        if group == IN_S + 8 {
             return 0x7F;
         }
         return 0;
@@ -62,36 +68,36 @@ fn npar_names(under: u32) -> u32
     if below != 0 {
         return 0;
     }
-    if group == 512 {
+    if group == IN_I {
         return 0x4F;
     }
-    if group == 513 {
+    if group == IN_I + 1 {
         return 0x27;
     }
-    if group < STANDARD {
+    if group < IN_S {
         return 0;
     }
-    standard_names(group - STANDARD)
+    standard_names(group - IN_S)
 }
 
 // The non-standard ones among them: bit 7 at level 1, bit 6 below, of T.30 facsimile also bit 12.
 fn non_standards(under: u32) -> u32
     ensures { λ r. ⌜ r ≡ maskOf isNonStandard (rowsUnder under nparBlocks) ⌝ }
 {
-    let group = under / 262144;
-    if under % 262144 != 0 {
+    let group = under / OF_S;
+    if under % OF_S != 0 {
         return 0;
     }
-    if group == 512 {
+    if group == IN_I {
         return 0x40;
     }
-    if group == 513 {
+    if group == IN_I + 1 {
         return 0x20;
     }
-    if group < STANDARD {
+    if group < IN_S {
         return 0;
     }
-    match group - STANDARD {
+    match group - IN_S {
         0 => 0x40,
         1 => 0x20,
         2 => 0x20,
@@ -109,16 +115,16 @@ fn non_standards(under: u32) -> u32
 fn spar_names(under: u32) -> u32
     ensures { λ r. ⌜ r ≡ maskOf isNamed (rowsUnder under sparBlocks) ⌝ }
 {
-    if under == 512 * 262144 {
+    if under == IDENTIFICATION {
         return 0x01;
     }
-    if under == STANDARD * 262144 {
+    if under == STANDARD {
         return 0x1FF;
     }
-    if under == (STANDARD + 3) * 262144 {
+    if under == STANDARD + 3 * OF_S {
         return 0x01;
     }
-    if under == (STANDARD + 8) * 262144 {
+    if under == STANDARD + 8 * OF_S {
         return 0x01;
     }
     0

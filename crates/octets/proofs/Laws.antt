@@ -9,8 +9,10 @@ use native.Mathlib.Omega.{arith}
 use borrow.Author.Tests.{ltb-true, ltb-false, lt-ltb, le-ltb}
 use lib.Dec.{ltb}
 use lib.ListN.{length, getD, take, drop, List·getD-eq-default}
+use lib.Seq.{drop-cons}
+use native.Mathlib.Numerals.{add-one}
 use Rattle.octets.specs.Bits.{odd, bits}
-use Rattle.octets.specs.Places.{pick, bitOf, isOne, bitAt, lastPlace, placeAfter}
+use Rattle.octets.specs.Places.{pick, bitOf, isOne, bitAt, lastPlace, placeAfter, both}
 use Rattle.octets.specs.declared.Bit.the-variants.{End}
 
 -- n octets have 8 n bits
@@ -103,3 +105,12 @@ bits-drop (suc k) [] = let e : suc k * 8 ≡ suc (k * 8 + 7) = omega arith in rw
 bits-drop (suc k) (x ∷ t) =
     let e : suc k * 8 ≡ suc (suc (suc (suc (suc (suc (suc (suc (k * 8)))))))) = omega arith in
     rw (e, bits-drop k t)
+
+-- a run from place i on is the octet there and the run behind it
+pub drop-next : (l : List ℕ) (i : ℕ) → i < length l → drop i l ≡ getD l i 0 ∷ drop (i + 1) l
+drop-next l i h = rw (add-one i) (drop-cons l i 0 h)
+
+-- two tests hold together
+pub both-true : (s t : Bool) → both s t ≡ true → (s ≡ true) × (t ≡ true)
+both-true true t e = (refl, e)
+both-true false t e = (e, cc)

@@ -4,7 +4,7 @@ use Prim.Native.Nat.{ℕ}
 use mathlib.Core.Bool.{Bool}
 use mathlib.Core.List.{List}
 use mathlib.Core.Path.{_≡_}
-use lib.ListN.{take, drop}
+use lib.ListN.{getD, take, drop}
 use denote.Ref.{RefT, now}
 use Rattle.octets.specs.Bits.{bits, number}
 use Rattle.octets.specs.Lay.{over}
@@ -39,6 +39,10 @@ IsMovedOn r q = IsReader (r .run) (placeAfter (now (r .run)) (r .at)) q
 -- bit_after
 abbrev pub TellsBitAfter : List ℕ → ℕ → Bit → Type 0
 TellsBitAfter run at b = TellsBit run (placeAfter run at) b
+
+-- octet_or_zero
+abbrev pub TellsOctetOrZero : List ℕ → ℕ → ℕ → Type 0
+TellsOctetOrZero run i r = r ≡ getD run i 0
 
 -- octet_at
 abbrev pub TellsOctet : List ℕ → ℕ → ℕ → Type 0

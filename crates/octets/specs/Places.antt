@@ -14,6 +14,10 @@ abbrev pub pick : {A : Type 0} → Bool → A → A → A
 pick true a b = a
 pick false a b = b
 
+-- two tests hold
+abbrev pub both : Bool → Bool → Bool
+both s t = pick s t false
+
 abbrev pub bitOf : Bool → Bit
 bitOf true = One
 bitOf false = Zero

@@ -1,8 +1,7 @@
 // What every layer needs of octets: the bits of a run, a cursor over them, eight bits as a number, and copying.
 ghost use mathlib.Core.Path.{_≡_};
 ghost use Prim.Native.Nat.{min};
-ghost use lib.ListN.{getD};
-ghost use Rattle.octets.specs.Contracts.{TellsBit, TellsOne, TellsPlaceAfter, IsReader, TellsNextBit, IsMovedOn, TellsBitAfter, TellsOctet, CopiesFront};
+ghost use Rattle.octets.specs.Contracts.{TellsBit, TellsOne, TellsPlaceAfter, IsReader, TellsNextBit, IsMovedOn, TellsBitAfter, TellsOctetOrZero, TellsOctet, CopiesFront};
 
 // The highest place that a usize can name.
 const LAST_PLACE: usize = 18446744073709551615;
@@ -89,11 +88,14 @@ pub fn bit_after(run: &[u8], at: usize) -> Bit
     next_bit(moved_on(reader_at(run, at)))
 }
 
-// The octet of a run, or 0 behind its end, as a wider number.
-fn octet_or_zero(run: &[u8], i: usize) -> u16
-    ensures { λ r. ⌜ r ≡ getD (now (run .entry)) i 0 ⌝ }
+// The octet of a run at a place, or 0 behind its end.
+pub fn octet_or_zero(run: &[u8], i: usize) -> u8
+    ensures { λ r. ⌜ TellsOctetOrZero (now (run .entry)) i r ⌝ }
 {
-    if i < run.len() { run[i] as u16 } else { 0 }
+    if i < run.len() {
+        return run[i];
+    }
+    0
 }
 
 // Eight bits of a run from a place on, as an octet; zeros behind the end.
@@ -101,8 +103,8 @@ pub fn octet_at(run: &[u8], at: usize) -> u8
     ensures { λ r. ⌜ TellsOctet (now (run .entry)) at r ⌝ }
 {
     let i = at / 8;
-    let low = octet_or_zero(run, i);
-    let high = octet_or_zero(run, i + 1);
+    let low = octet_or_zero(run, i) as u16;
+    let high = octet_or_zero(run, i + 1) as u16;
     (((high * 256 + low) >> (at % 8)) % 256) as u8
 }
 

@@ -13,19 +13,19 @@ use Rattle.octets.specs.Lay.{put}
 use Rattle.octets.proofs.Laying.{put-nil}
 use Rattle.tree.specs.Codes.{fieldBase, fieldCodes}
 use Rattle.tree.specs.Form.{fieldForm}
-use Rattle.tree.specs.Fields.{isIn, codesIn}
+use Rattle.tree.specs.Fields.{isIn, codesIn, mostOctets}
 use Rattle.tree.specs.declared.Field.the-variants.{Identification, Standard}
 use Rattle.tree.specs.declared.Form.the-variants.{Fine}
 use Rattle.tree.proofs.Forms.{form-in}
 use Rattle.message.specs.Kinds.{hasFields, typeOf}
-use Rattle.message.specs.Reader.{mostOctets, listRoom, standardAt, messageCodes, readMessage, accepted}
+use Rattle.message.specs.Reader.{listRoom, standardAt, messageCodes, readMessage, accepted}
 use Rattle.message.proofs.Accepted.{accepted-passed}
 use Rattle.message.proofs.Checked.{fields-fine}
 use Rattle.message.proofs.Fields.{parts-fine}
 use Rattle.message.proofs.Room.{codes-in}
-use Rattle.writer.specs.Writer.{messageOctets}
-use Rattle.writer.proofs.Growing.{within-at, in-either, in-front, tree-within}
-use Rattle.writer.proofs.Reading.{treeAt, tree-codes, tree-good}
+use Rattle.meaning.specs.Writing.{messageOctets}
+use Rattle.meaning.proofs.Growing.{within-at, in-either, in-front, tree-within}
+use Rattle.meaning.proofs.Reading.{treeAt, tree-codes, tree-good}
 use Rattle.names.specs.declared.Keep.{Keep}
 use Rattle.strike.specs.Rewriting.{kept, rewritten, Rewrites}
 use Rattle.choice.specs.Wishes.{wishesOf, standardCodes, goodWishes}

@@ -19,9 +19,9 @@ use Rattle.tree.specs.declared.Field.the-variants.{Standard}
 use Rattle.tree.proofs.Ascending.{field-ascending}
 use Rattle.tree.proofs.Forms.{form-in}
 use Rattle.message.proofs.Room.{laid-behind}
-use Rattle.writer.specs.Written.{blockFrom, run, from, positions, parsWritten, restWritten, written}
-use Rattle.writer.specs.Minimal.{both}
-use Rattle.writer.specs.Writer.{messageOctets}
+use Rattle.meaning.specs.Written.{blockFrom, run, from, positions, parsWritten, restWritten, written}
+use Rattle.octets.specs.Places.{both}
+use Rattle.meaning.specs.Writing.{messageOctets}
 use Rattle.good.specs.Good.{goodField}
 use Rattle.strike.specs.Rewriting.{kept, rewritten}
 use Rattle.good.proofs.Parts.{good-parts}
@@ -34,7 +34,7 @@ use Rattle.choice.specs.declared.Choice.the-variants.{Chosen, NoChoice}
 use Rattle.choice.specs.declared.Pick.{Pick}
 use Rattle.choice.proofs.Chosen.{chosen-first, first-member}
 use Rattle.choice.proofs.Tabled.{good-fields}
-use Rattle.choice.proofs.Truths.{both-parts}
+use Rattle.octets.proofs.Laws.{both-true}
 use Rattle.table.specs.declared.Phase.{Phase}
 use Rattle.table.specs.declared.Settings.{Settings}
 use Rattle.station.specs.declared.Offer.{Offer}
@@ -216,7 +216,7 @@ pub choice-lies : (own : List ℕ) (far : Far) (wishes : List ℕ) (r : Choice) 
 choice-lies own far wishes (Chosen p) g e =
     let f = chosen-first own far wishes p (sym e) in
     let w = good-fields mostWishes wishes g (f .wish) (first-member f) in
-    (f .inside, rw (f .field) (both-parts (goodField (f .wish .field)) _ w .0), f .few)
+    (f .inside, rw (f .field) (both-true (goodField (f .wish .field)) _ w .0), f .few)
 choice-lies own far wishes NoChoice g e = tt
 
 -- from where it begins to where it ends it has its length

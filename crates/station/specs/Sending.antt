@@ -6,8 +6,8 @@ use mathlib.Core.Bool.{Bool, true, false, not}
 use mathlib.Core.List.{List, [], _∷_, _++_}
 use lib.ListN.{take, drop}
 use Rattle.tree.specs.Codes.{codeOf}
-use Rattle.writer.specs.Minimal.{both}
-use Rattle.writer.specs.Writer.{messageOctets}
+use Rattle.octets.specs.Places.{both}
+use Rattle.meaning.specs.Writing.{messageOctets}
 use Rattle.choice.specs.Wishes.{standardCodes}
 use Rattle.choice.specs.declared.Pick.{Pick}
 use Rattle.table.specs.declared.Settings.{Settings}

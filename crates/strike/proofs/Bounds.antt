@@ -10,12 +10,13 @@ use borrow.Author.Tests.{ltb-true, ltb-false}
 use lib.Dec.{ltb}
 use lib.ListN.{length, length-append}
 use Rattle.octets.specs.Bits.{AreOctets, num}
-use Rattle.tree.specs.Codes.{fieldBase}
+use Rattle.tree.specs.Codes.{fieldBase, ofF, ofS}
 use Rattle.tree.specs.Order.{AllBelow}
-use Rattle.writer.specs.Written.{passed, blockFrom, block, marked}
-use Rattle.writer.proofs.Minimals.{both-true}
-use Rattle.writer.proofs.Reading.{treeAt, tree-codes, tree-good}
-use Rattle.writer.proofs.Trees.{Sub, sub, Par, par, Tree, tree, subPlaces, parPlaces, shift, subsCodes, parsCodes, treeCodes, subsOctets, lowerOctets, parOctets, parsOctets, treeOctets, Rising, GoodSubs, GoodPars, GoodTree}
+use Rattle.meaning.specs.Written.{passed, blockFrom, block, marked}
+use Rattle.octets.proofs.Laws.{both-true}
+use Rattle.meaning.proofs.Reading.{treeAt, tree-codes, tree-good}
+use Rattle.meaning.proofs.Trees.{Sub, sub, Par, par, Tree, tree, subPlaces, parPlaces, subsCodes, parsCodes, treeCodes, subsOctets, lowerOctets, parOctets, parsOctets, treeOctets, Rising, GoodSubs, GoodPars, GoodTree}
+use Rattle.tree.proofs.Numbering.{shift}
 use Rattle.names.specs.Tables.{Row, nparBlocks, sparBlocks}
 use Rattle.names.specs.Named.{rowsUnder, rowAt, isStandard, standardCode}
 use Rattle.names.proofs.Rows.{row-npar, row-spar1, row-spar2}
@@ -73,8 +74,8 @@ lowerRoom c (suc n) = octetsTo 6 (suc n) + sumTo (subRoom c) (suc n)
 
 unfoldable pub parRoom : ℕ → ℕ → ℕ
 parRoom b s =
-    octetsTo 6 (standardEnd (rowsUnder (b + s * 262144) nparBlocks))
-    + lowerRoom (b + s * 262144) (standardEnd (rowsUnder (b + s * 262144) sparBlocks))
+    octetsTo 6 (standardEnd (rowsUnder (b + s * ofS) nparBlocks))
+    + lowerRoom (b + s * ofS) (standardEnd (rowsUnder (b + s * ofS) sparBlocks))
 
 unfoldable pub fieldRoom : ℕ → ℕ
 fieldRoom b =
@@ -142,7 +143,7 @@ npar-fits w m c ks wide a r h = block-fits w m (standardEnd (rowsUnder c nparBlo
 -- ---- the octets of a tree
 
 -- SPar(2) positions from lo on, up to the last standard one, n: they stand in the table's rows, and their NPar(3) blocks have room
-subs-fit : (c lo n : ℕ) (gs : List Sub) → c % 262144 ≡ 0 → n ≡ standardEnd (rowsUnder c sparBlocks) → lo ≤ n → Rising lo (subPlaces gs) → GoodSubs gs → allStandard (subsCodes c gs) ≡ true
+subs-fit : (c lo n : ℕ) (gs : List Sub) → c % ofS ≡ 0 → n ≡ standardEnd (rowsUnder c sparBlocks) → lo ≤ n → Rising lo (subPlaces gs) → GoodSubs gs → allStandard (subsCodes c gs) ≡ true
     → AllBelow (suc n) (subPlaces gs) × (length (subsOctets gs) + sumTo (subRoom c) lo ≤ sumTo (subRoom c) n)
 unfolding Rising GoodSubs AllBelow allStandard subsCodes subsOctets subRoom
 subs-fit c lo n [] a e h r g s = (tt, omega (arith, sum-more (subRoom c) lo n h))
@@ -165,7 +166,7 @@ lower-room c zero h = absurd (omega arith)
 lower-room c (suc n) h = refl
 
 -- SPar(2) with all below it
-lower-fits : (c n : ℕ) (gs : List Sub) → c % 262144 ≡ 0 → n ≡ standardEnd (rowsUnder c sparBlocks) → Rising 0 (subPlaces gs) → GoodSubs gs → allStandard (subsCodes c gs) ≡ true
+lower-fits : (c n : ℕ) (gs : List Sub) → c % ofS ≡ 0 → n ≡ standardEnd (rowsUnder c sparBlocks) → Rising 0 (subPlaces gs) → GoodSubs gs → allStandard (subsCodes c gs) ≡ true
     → length (lowerOctets gs) ≤ lowerRoom c n
 lower-fits c n [] a e r g s = unfold lowerOctets in omega arith
 lower-fits c n ((sub t ks) ∷ gs) a e r g s =
@@ -175,12 +176,12 @@ lower-fits c n ((sub t ks) ∷ gs) a e r g s =
     rw (lower-room c n low) (omega (arith, lower-most some, block-fits 6 64 n (subPlaces some) (omega arith) r (f .0), f .1))
 
 -- SPar(1) positions likewise, with their Par(2) blocks
-pars-fit : (b lo n : ℕ) (ps : List Par) → b % 134217728 ≡ 0 → n ≡ standardEnd (rowsUnder b sparBlocks) → lo ≤ n → Rising lo (parPlaces ps) → GoodPars ps → allStandard (parsCodes b ps) ≡ true
+pars-fit : (b lo n : ℕ) (ps : List Par) → b % ofF ≡ 0 → n ≡ standardEnd (rowsUnder b sparBlocks) → lo ≤ n → Rising lo (parPlaces ps) → GoodPars ps → allStandard (parsCodes b ps) ≡ true
     → AllBelow (suc n) (parPlaces ps) × (length (parsOctets ps) + sumTo (parRoom b) lo ≤ sumTo (parRoom b) n)
 unfolding Rising GoodPars AllBelow allStandard parsCodes parOctets parsOctets parRoom
 pars-fit b lo n [] a e h r g s = (tt, omega (arith, sum-more (parRoom b) lo n h))
 pars-fit b lo n ((par q ns gs) ∷ ps) a e h r g s =
-    let c = b + q * 262144 in
+    let c = b + q * ofS in
     let B = block 6 64 ns in
     let G = lowerOctets gs in
     let p = both-true (standardCode c) _ s in
@@ -201,7 +202,7 @@ pars-fit b lo n ((par q ns gs) ∷ ps) a e h r g s =
     )
 
 -- a tree of standard codes
-tree-fits : (b : ℕ) (T : Tree) → b % 134217728 ≡ 0 → GoodTree T → allStandard (treeCodes b T) ≡ true → length (treeOctets T) ≤ fieldRoom b
+tree-fits : (b : ℕ) (T : Tree) → b % ofF ≡ 0 → GoodTree T → allStandard (treeCodes b T) ≡ true → length (treeOctets T) ≤ fieldRoom b
 unfolding GoodTree treeCodes treeOctets fieldRoom sumTo
 tree-fits b (tree ns ps) a g s =
     let N = block 7 128 ns in

@@ -9,19 +9,19 @@ use lib.ListN.{length}
 use Rattle.octets.specs.Bits.{AreOctets}
 use Rattle.octets.specs.Places.{pick}
 use Rattle.tree.specs.Block.{numbers, behind, ended}
-use Rattle.tree.specs.Codes.{fieldBase, groupBehind, fieldCodes, fieldBehind}
+use Rattle.tree.specs.Codes.{fieldBase, groupBehind, fieldCodes, fieldBehind, ofF, ofS}
 use Rattle.tree.specs.Form.{fieldForm}
 use Rattle.tree.specs.Fields.{baseOf}
 use Rattle.tree.specs.declared.Field.{Field}
 use Rattle.tree.specs.declared.Field.the-variants.{Identification, Standard}
 use Rattle.tree.specs.declared.Form.the-variants.{Fine}
-use Rattle.writer.specs.Written.{block, marked, written}
-use Rattle.writer.specs.Writer.{isEmpty}
-use Rattle.writer.proofs.Trees.{Sub, sub, Par, par, subPlaces, treeCodes, subsOctets, lowerOctets, parOctets, parsOctets, treeOctets, Rising}
-use Rattle.writer.proofs.Growing.{written-tree}
-use Rattle.writer.proofs.Meanings.{Meant, tree-means}
-use Rattle.writer.proofs.Reading.{subsAt, groupAt, parsAt, treeAt, places-subs, places-pars, rising-at, tree-codes, tree-good}
-use Rattle.writer.proofs.Minimals.{never-longer}
+use Rattle.meaning.specs.Written.{block, marked, written}
+use Rattle.meaning.specs.Writing.{isEmpty}
+use Rattle.meaning.proofs.Trees.{Sub, sub, Par, par, subPlaces, treeCodes, subsOctets, lowerOctets, parOctets, parsOctets, treeOctets, Rising}
+use Rattle.meaning.proofs.Growing.{written-tree}
+use Rattle.meaning.proofs.Meanings.{Meant, tree-means}
+use Rattle.meaning.proofs.Reading.{subsAt, groupAt, parsAt, treeAt, places-subs, places-pars, rising-at, tree-codes, tree-good}
+use Rattle.meaning.proofs.Minimals.{never-longer}
 use Rattle.names.specs.Named.{keeps}
 use Rattle.names.specs.Masks.{only, nparPlaces, sparPlaces}
 use Rattle.names.specs.Inner.{keptPlace}
@@ -32,7 +32,7 @@ use Rattle.strike.specs.Inner.{sieved, subKept, subsKept, lowerKept, gro
 use Rattle.strike.proofs.Filtering.{subsOnly, parsOnly, treeOnly, places-subs-only, places-pars-only, tree-only-good, Parented, tree-only-codes, tree-fewer}
 
 -- a field's codes begin at a multiple of 134217728
-base-whole : (f : Field) → baseOf f % 134217728 ≡ 0
+base-whole : (f : Field) → baseOf f % ofF ≡ 0
 base-whole Identification = refl
 base-whole Standard = refl
 
@@ -58,16 +58,16 @@ module _ (k : Keep) (l : List ℕ) (short : length l ≤ 64) where
   npars-kept w m c e h a =
       same-only (keptPlace (nparPlaces k c)) (λ q. keeps k (c + q)) 0 (numbers w m 0 l e) (rising-at l short w m e h) (λ q p i. keeps-npar k c q a p i)
 
-  spars1-kept : (b e : ℕ) → b % 134217728 ≡ 0 → sieved 7 128 (sparPlaces k b) l e ≡ only (λ s. keeps k (b + s * 262144)) (numbers 7 128 0 l e)
+  spars1-kept : (b e : ℕ) → b % ofF ≡ 0 → sieved 7 128 (sparPlaces k b) l e ≡ only (λ s. keeps k (b + s * ofS)) (numbers 7 128 0 l e)
   spars1-kept b e a =
-      same-only (keptPlace (sparPlaces k b)) (λ s. keeps k (b + s * 262144)) 0 (numbers 7 128 0 l e) (rising-at l short 7 128 e (omega arith)) (λ q p i. keeps-spar1 k b q a p i)
+      same-only (keptPlace (sparPlaces k b)) (λ s. keeps k (b + s * ofS)) 0 (numbers 7 128 0 l e) (rising-at l short 7 128 e (omega arith)) (λ q p i. keeps-spar1 k b q a p i)
 
-  spars2-kept : (c e : ℕ) → c % 262144 ≡ 0 → sieved 6 64 (sparPlaces k c) l e ≡ only (λ t. keeps k (c + t * 512)) (numbers 6 64 0 l e)
+  spars2-kept : (c e : ℕ) → c % ofS ≡ 0 → sieved 6 64 (sparPlaces k c) l e ≡ only (λ t. keeps k (c + t * 512)) (numbers 6 64 0 l e)
   spars2-kept c e a =
       same-only (keptPlace (sparPlaces k c)) (λ t. keeps k (c + t * 512)) 0 (numbers 6 64 0 l e) (rising-at l short 6 64 e (omega arith)) (λ q p i. keeps-spar2 k c q a p i)
 
   -- what is put for the NPar(3) blocks is the octets of the nodes that are left; likewise with SPar(2) before them, and above
-  subs-crossed : (c lo : ℕ) (ts : List ℕ) (e : ℕ) → c % 262144 ≡ 0 → Rising lo ts → subsKept k c (sparPlaces k c) ts l e ≡ subsOctets (subsOnly (keeps k) c (subsAt ts l e))
+  subs-crossed : (c lo : ℕ) (ts : List ℕ) (e : ℕ) → c % ofS ≡ 0 → Rising lo ts → subsKept k c (sparPlaces k c) ts l e ≡ subsOctets (subsOnly (keeps k) c (subsAt ts l e))
   unfolding Rising subsOctets subsOnly subsAt subsKept subKept
   subs-crossed c lo [] e a r = refl
   subs-crossed c lo (t ∷ ts) e a r =
@@ -86,7 +86,7 @@ module _ (k : Keep) (l : List ℕ) (short : length l ≤ 64) where
       go true = refl
       go false = refl
 
-  lower-crossed : (c e : ℕ) → c % 262144 ≡ 0 → lowerKept k c (sparPlaces k c) l e ≡ lowerOctets (subsOnly (keeps k) c (subsAt (numbers 6 64 0 l e) l (behind 64 l e)))
+  lower-crossed : (c e : ℕ) → c % ofS ≡ 0 → lowerKept k c (sparPlaces k c) l e ≡ lowerOctets (subsOnly (keeps k) c (subsAt (numbers 6 64 0 l e) l (behind 64 l e)))
   unfolding lowerKept
   lower-crossed c e a =
       let ts = numbers 6 64 0 l e in
@@ -96,7 +96,7 @@ module _ (k : Keep) (l : List ℕ) (short : length l ≤ 64) where
       spars2-kept c e a ∙ sym (places-subs-only (keeps k) c (subsAt ts l x) ∙ ap (only (λ t. keeps k (c + t * 512))) (places-subs ts l x)) in
       rw (places, subs-crossed c 0 ts x a (rising-at l short 6 64 e (omega arith))) (sym (lower-octets gs))
 
-  group-crossed : (c e : ℕ) → c % 262144 ≡ 0 → groupKept k c l e ≡ lowerOctets (subsOnly (keeps k) c (groupAt l e))
+  group-crossed : (c e : ℕ) → c % ofS ≡ 0 → groupKept k c l e ≡ lowerOctets (subsOnly (keeps k) c (groupAt l e))
   unfolding groupKept groupAt
   group-crossed c e a = rw (lower-crossed c e a) (go (ended l e))
     where
@@ -107,7 +107,7 @@ module _ (k : Keep) (l : List ℕ) (short : length l ≤ 64) where
       go true = unfold lowerOctets subsOnly in refl
       go false = refl
 
-  pars-crossed : (b lo : ℕ) (ss : List ℕ) (e : ℕ) → b % 134217728 ≡ 0 → Rising lo ss → parsKept k b (sparPlaces k b) ss l e ≡ parsOctets (parsOnly (keeps k) b (parsAt ss l e))
+  pars-crossed : (b lo : ℕ) (ss : List ℕ) (e : ℕ) → b % ofF ≡ 0 → Rising lo ss → parsKept k b (sparPlaces k b) ss l e ≡ parsOctets (parsOnly (keeps k) b (parsAt ss l e))
   unfolding Rising parOctets parsOctets parsOnly parsAt parsKept parKept wholePar
   pars-crossed b lo [] e a r = refl
   pars-crossed b lo (s ∷ ss) e a r =
@@ -115,7 +115,7 @@ module _ (k : Keep) (l : List ℕ) (short : length l ≤ 64) where
       (go (keeps k c))
     where
       c : ℕ
-      c = b + s * 262144
+      c = b + s * ofS
 
       x : ℕ
       x = behind 64 l e
@@ -136,18 +136,18 @@ module _ (k : Keep) (l : List ℕ) (short : length l ≤ 64) where
       go true = refl
       go false = refl
 
-  tree-crossed : (b at : ℕ) → b % 134217728 ≡ 0 → fieldKept k b l at ≡ treeOctets (treeOnly (keeps k) b (treeAt l at))
+  tree-crossed : (b at : ℕ) → b % ofF ≡ 0 → fieldKept k b l at ≡ treeOctets (treeOnly (keeps k) b (treeAt l at))
   unfolding fieldKept restKept treeOctets treeOnly treeAt
   tree-crossed b at a =
       let x = behind 128 l at in
       let y = behind 128 l x in
       let ss = numbers 7 128 0 l x in
       let places : sieved 7 128 (sparPlaces k b) l x ≡ _ =
-      spars1-kept b x a ∙ sym (places-pars-only (keeps k) b (parsAt ss l y) ∙ ap (only (λ s. keeps k (b + s * 262144))) (places-pars ss l y)) in
+      spars1-kept b x a ∙ sym (places-pars-only (keeps k) b (parsAt ss l y) ∙ ap (only (λ s. keeps k (b + s * ofS))) (places-pars ss l y)) in
       rw (npars-kept 7 128 b at (omega arith) (omega arith), places, pars-crossed b 0 ss y a (rising-at l short 7 128 x (omega arith)))
 
   -- the codes of the field's tree, filtered
-  kept-codes : (b at : ℕ) → b % 134217728 ≡ 0 → treeCodes b (treeOnly (keeps k) b (treeAt l at)) ≡ only (keeps k) (fieldCodes b l at)
+  kept-codes : (b at : ℕ) → b % ofF ≡ 0 → treeCodes b (treeOnly (keeps k) b (treeAt l at)) ≡ only (keeps k) (fieldCodes b l at)
   kept-codes b at a = tree-only-codes (keeps k) (kept-parented k) b (treeAt l at) a (tree-good l short at) ∙ ap (only (keeps k)) (tree-codes b l at)
 
   -- a field rewritten block by block is what is written of those of its codes that are kept

@@ -1,13 +1,14 @@
 -- The minimal block of what is kept of a block, octet by octet: the kept octets up to the last in which something is set, or one where
 -- nothing is, and the delimiter in the last.
 -- Assumes nothing.
-use Prim.Native.Nat.{ℕ, zero, suc, _+_, _*_, _-_, _%_, _^_, _≤_, _<_}
+use Prim.Native.Nat.{ℕ, zero, suc, _+_, _*_, _-_, _/_, _%_, _^_, _≤_, _<_}
 use mathlib.Core.Bool.{Bool, true, false}
 use mathlib.Core.List.{List, [], _∷_, _++_}
 use mathlib.Core.Path.{_≡_, refl, sym, ap, _∙_}
 use native.Mathlib.Nat.{mul-le-mul-right, add-mul-mod-self-right, mod-eq-of-lt}
 use native.Mathlib.Omega.{arith}
 use borrow.Author.Tests.{eqb-true, eq-eqb, ne-eqb, lt-ltb, le-ltb}
+use lib.Bits.{bitAnd}
 use lib.Dec.{ltb, eqb}
 use lib.ListN.{length, getD, drop, length-drop, drop-of-length-le}
 use lib.Pow.{pow-pos}
@@ -16,17 +17,18 @@ use Rattle.octets.specs.Bits.{num}
 use Rattle.octets.specs.Places.{pick}
 use Rattle.tree.specs.Block.{setBits, blockNumbers, blockEnd, behind}
 use Rattle.tree.proofs.Lowest.{bits-none}
-use Rattle.writer.specs.Minimal.{fullAtEnd, tight}
-use Rattle.writer.specs.Writer.{isEmpty}
-use Rattle.writer.specs.Written.{block}
-use Rattle.writer.proofs.Blocks.{Ends, last, more, block-back, setBits-over}
-use Rattle.writer.proofs.Putting.{drop-next}
+use Rattle.meaning.specs.Minimal.{fullAtEnd, tight}
+use Rattle.meaning.specs.Writing.{isEmpty}
+use Rattle.meaning.specs.Written.{block}
+use Rattle.meaning.proofs.Blocks.{Ends, last, more, block-back}
+use Rattle.tree.proofs.Numbering.{setBits-over}
+use Rattle.octets.proofs.Laws.{drop-next}
 use Rattle.names.specs.Masks.{only}
 use Rattle.names.specs.Inner.{keptPlace}
 use Rattle.names.specs.declared.Places.{Places}
 use Rattle.names.proofs.Sieving.{only-append}
-use Rattle.strike.specs.Inner.{sieved, blockKept}
-use Rattle.strike.proofs.Sifting.{keptOctet, kept-below, kept-zero, kept-bits, no-bits}
+use Rattle.strike.specs.Inner.{namesAt, sieved, blockKept}
+use Rattle.strike.proofs.Sifting.{keptOctet, kept-below, kept-zero, kept-bits, no-bits, kept-running, names-on}
 
 -- ---- octets cut behind the last in which something is set
 
@@ -345,20 +347,20 @@ module _ {w m : ℕ} {s : List ℕ} (f : Framed w m s) (places : Places) (e : �
 
 -- ---- counting them
 
--- up to i, count octets are left if nothing more comes
-pub record Reaching (w m : ℕ) (places : Places) (s : List ℕ) (e count above i : ℕ) : Type 0 where
+-- up to i, count octets are left if nothing more comes; the names are those of the positions above a number
+pub record Reaching (w m : ℕ) (places : Places) (s : List ℕ) (e count names i : ℕ) : Type 0 where
+  pub above : ℕ
   pub passed : e ≤ i
-  pub within : i - e ≤ length s
-  pub high : above ≡ w * (i - e)
+  pub named : names ≡ namesAt places above
   pub octets : pick (allZero (keptOctets w places m above (drop i s))) count (i - e + length (trim m (keptOctets w places m above (drop i s)))) ≡ length (blockKept w m places s e)
   pub end : blockEnd m i (drop i s) ≡ behind m s e
 
-pub reaching-none : {w m : ℕ} {s : List ℕ} → Framed w m s → (places : Places) (e : ℕ) → Reaching w m places s e 1 0 e
-reaching-none {w} {m} {s} f places e =
+pub reaching-none : {w m : ℕ} {s : List ℕ} → Framed w m s → (places : Places) (e names : ℕ) → names ≡ namesAt places 0 → Reaching w m places s e 1 names e
+reaching-none {w} {m} {s} f places e names h =
     record {
+      above = 0;
       passed = omega arith;
-      within = omega arith;
-      high = let none : e - e ≡ 0 = omega arith in rw none (omega arith);
+      named = h;
       octets = let none : e - e ≡ 0 = omega arith in rw (none, kept-written f places e) (go (allZero xs) refl);
       end = refl;
     }
@@ -377,35 +379,36 @@ counts-some x r count count′ j k h n = rw (← k, ne-eqb r 0 h) n
 pub counts-none : (x r count count′ j : ℕ) → r ≡ x → r ≡ 0 → count′ ≡ count → count′ ≡ pick (eqb x 0) count j
 counts-none x r count count′ j k h n = rw (← k, eq-eqb r 0 h) n
 
-module _ {w m : ℕ} {places : Places} {s : List ℕ} {e count above i : ℕ} (r : Reaching w m places s e count above i) where
-  -- no position stands high
-  pub reaching-low : Framed w m s → above ≤ 448
-  reaching-low f = omega (arith, r .high, r .within, f .short, mul-le-mul-right (i - e) (f .narrow))
-
+module _ {w m : ℕ} {places : Places} {s : List ℕ} {e count names i : ℕ} (r : Reaching w m places s e count names i) where
   -- the octets are at their end
   pub reaching-end : length s ≤ i → (count ≡ length (blockKept w m places s e)) × (i ≡ behind m s e)
   unfolding keptOctets allZero blockEnd
   reaching-end h = let none = drop-of-length-le s h in (rw none at (r .octets), rw none at (r .end))
 
-  module _ (inside : i < length s) (count′ : ℕ) (counted : count′ ≡ pick (eqb (keptOctet w places above (getD s i 0)) 0) count (i + 1 - e)) where
+  module _ (f : Framed w m s) (inside : i < length s) {count′ : ℕ} (counted : count′ ≡ pick (eqb (bitAnd (getD s i 0 % m) (names % m)) 0) count (i + 1 - e)) where
+    -- what is kept of the octet at hand
+    abbrev here : ℕ
+    here = keptOctet w places (r .above) (getD s i 0)
+
     -- one octet, and those behind it
-    counted-on : (ys : List ℕ) → keptOctets w places m above (drop i s) ≡ keptOctet w places above (getD s i 0) ∷ ys
+    counted-on : (ys : List ℕ) → keptOctets w places m (r .above) (drop i s) ≡ here ∷ ys
         → pick (allZero ys) count′ (i + 1 - e + length (trim m ys)) ≡ length (blockKept w m places s e)
     counted-on ys k =
         let j : i + 1 - e ≡ i - e + 1 = omega (arith, r .passed) in
-        rw (counted, j) (sym (trim-step m (keptOctet w places above (getD s i 0)) count (i - e) ys) ∙ (rw k at (r .octets)))
+        let kept = kept-running w m places (r .above) (getD s i 0) names (f .mark) (f .narrow) (r .named) in
+        rw (counted, kept, j) (sym (trim-step m here count (i - e) ys) ∙ (rw k at (r .octets)))
 
     -- the block goes on behind it
-    pub reaching-more : getD s i 0 < m → Reaching w m places s e count′ (above + w) (i + 1)
+    pub reaching-more : {step : ℕ} → step ≡ pick (places .all) 0 w → getD s i 0 < m → Reaching w m places s e count′ (names / 2 ^ step) (i + 1)
     unfolding keptOctets blockEnd
-    reaching-more h =
+    reaching-more n h =
         let goes = lt-ltb (getD s i 0) m h in
         let next = drop-next s i inside in
         record {
+          above = r .above + w;
           passed = omega (arith, r .passed);
-          within = omega (arith, r .within);
-          high = let j : i + 1 - e ≡ i - e + 1 = omega (arith, r .passed) in rw j (omega (arith, r .high));
-          octets = counted-on (keptOctets w places m (above + w) (drop (i + 1) s)) (rw (next, goes));
+          named = names-on places (r .above) w names (r .named) n;
+          octets = counted-on (keptOctets w places m (r .above + w) (drop (i + 1) s)) (rw (next, goes));
           end = rw (next, goes) at (r .end);
         }
 

@@ -1,23 +1,18 @@
 -- What `rewrite_field` answers: nothing where it refuses, and else what is put of the field.
 -- Assumes nothing.
 use Prim.Native.Nat.{ℕ, _+_, _≤_, _<_}
-use mathlib.Core.Bool.{Bool, true, false}
+use mathlib.Core.Bool.{true, false}
 use mathlib.Core.List.{List, []}
-use mathlib.Core.Path.{_≡_, refl, sym, ap, _∙_}
+use mathlib.Core.Path.{_≡_, sym, _∙_}
 use native.Mathlib.Omega.{arith}
-use borrow.Author.Tests.{ltb-false, lt-ltb, le-ltb}
-use lib.Dec.{ltb}
+use borrow.Author.Tests.{lt-ltb, le-ltb}
 use lib.ListN.{length}
 use Rattle.octets.specs.Bits.{AreOctets}
-use Rattle.octets.specs.Places.{pick}
 use Rattle.octets.proofs.Laying.{put-nil}
-use Rattle.tree.specs.Form.{isFine, fieldForm}
-use Rattle.tree.specs.Fields.{baseOf, formIn, reachOf}
+use Rattle.tree.specs.Form.{isFine}
+use Rattle.tree.specs.Fields.{baseOf, formIn}
 use Rattle.tree.specs.declared.Field.{Field}
-use Rattle.tree.specs.declared.Form.{Form}
-use Rattle.tree.specs.declared.Form.the-variants.{Fine, Left}
-use Rattle.tree.specs.declared.Reach.{Reach}
-use Rattle.tree.proofs.Forms.{is-fine, field-fits}
+use Rattle.tree.proofs.Forms.{field-fits, fine-in}
 use Rattle.message.proofs.Room.{codes-in}
 use Rattle.names.specs.declared.Keep.{Keep}
 use Rattle.strike.specs.Inner.{fieldKept, Puts}
@@ -25,19 +20,6 @@ use Rattle.strike.specs.Rewriting.{kept, rewritten, Rewrites}
 use Rattle.strike.specs.declared.Spot.{Spot}
 use Rattle.strike.proofs.Crossing.{kept-is-written, kept-fits}
 use Rattle.strike.proofs.Storing.{sets-front}
-
--- what is told of a field tells whether it is well-formed
-pub form-told : (form : Form) (end : ℕ) (r : Reach) {t : Bool} → r ≡ reachOf form end → isFine (r .form) ≡ t → isFine form ≡ t
-form-told form end r e h = ap (λ (x : Reach). isFine (x .form)) (sym e) ∙ h
-
--- a field that is found fine stands in octets of a message
-fine-in : (l : List ℕ) (at : ℕ) → isFine (formIn l at) ≡ true → (length l ≤ 64) × (fieldForm l at ≡ Fine)
-unfolding formIn
-fine-in l at h = go (ltb 64 (length l)) refl h
-  where
-    go : (t : Bool) → ltb 64 (length l) ≡ t → isFine (pick t (Left 64) (fieldForm l at)) ≡ true → (length l ≤ 64) × (fieldForm l at ≡ Fine)
-    go true e f = let z : _≡_ {A = ℕ} 0 1 = cc in absurd (omega arith)
-    go false e f = (ltb-false 64 (length l) e, is-fine (fieldForm l at) f)
 
 -- what is kept of a field's codes, written, is what is put for it
 kept-is-put : (k : Keep) (f : Field) (l : List ℕ) (at : ℕ) → length l ≤ 64 → kept k f l at ≡ fieldKept k (baseOf f) l at

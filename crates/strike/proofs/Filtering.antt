@@ -9,9 +9,11 @@ use native.Mathlib.Nat.{div-add-mod', add-mul-div-right}
 use native.Mathlib.Omega.{arith}
 use lib.Arith.{digits-mod}
 use lib.ListN.{length, length-append, length-replicate}
+use Rattle.tree.specs.Codes.{ofF, ofS}
 use Rattle.octets.specs.Places.{pick}
-use Rattle.writer.specs.Written.{passed, skipped, blockFrom, block, marked}
-use Rattle.writer.proofs.Trees.{Sub, sub, Par, par, Tree, tree, subPlaces, parPlaces, shift, subsCodes, parsCodes, treeCodes, subsOctets, lowerOctets, parOctets, parsOctets, treeOctets, Rising, GoodSubs, GoodPars, GoodTree}
+use Rattle.meaning.specs.Written.{passed, skipped, blockFrom, block, marked}
+use Rattle.meaning.proofs.Trees.{Sub, sub, Par, par, Tree, tree, subPlaces, parPlaces, subsCodes, parsCodes, treeCodes, subsOctets, lowerOctets, parOctets, parsOctets, treeOctets, Rising, GoodSubs, GoodPars, GoodTree}
+use Rattle.tree.proofs.Numbering.{shift}
 use Rattle.names.specs.Masks.{only}
 use Rattle.names.proofs.Sieving.{only-append}
 
@@ -23,8 +25,8 @@ subsOnly f c ((sub t ks) ∷ gs) = pick (f (c + t * 512)) (sub t (only (λ q. f 
 unfoldable pub parsOnly : (ℕ → Bool) → ℕ → List Par → List Par
 parsOnly f b [] = []
 parsOnly f b ((par s ns gs) ∷ ps) =
-    pick (f (b + s * 262144))
-    (par s (only (λ q. f (b + s * 262144 + q)) ns) (subsOnly f (b + s * 262144) gs) ∷ parsOnly f b ps)
+    pick (f (b + s * ofS))
+    (par s (only (λ q. f (b + s * ofS + q)) ns) (subsOnly f (b + s * ofS) gs) ∷ parsOnly f b ps)
     (parsOnly f b ps)
 
 unfoldable pub treeOnly : (ℕ → Bool) → ℕ → Tree → Tree
@@ -61,16 +63,16 @@ places-subs-only f c ((sub t ks) ∷ gs) = go (f (c + t * 512)) (places-subs-onl
     go true e = ap (λ (x : List ℕ). t ∷ x) e
     go false e = e
 
-pub places-pars-only : (f : ℕ → Bool) (b : ℕ) (ps : List Par) → parPlaces (parsOnly f b ps) ≡ only (λ s. f (b + s * 262144)) (parPlaces ps)
+pub places-pars-only : (f : ℕ → Bool) (b : ℕ) (ps : List Par) → parPlaces (parsOnly f b ps) ≡ only (λ s. f (b + s * ofS)) (parPlaces ps)
 unfolding parsOnly only
 places-pars-only f b [] = refl
-places-pars-only f b ((par s ns gs) ∷ ps) = go (f (b + s * 262144)) (places-pars-only f b ps)
+places-pars-only f b ((par s ns gs) ∷ ps) = go (f (b + s * ofS)) (places-pars-only f b ps)
   where
     S : List Par
     S = parsOnly f b ps
 
     go : {R : List ℕ} (u : Bool) → parPlaces S ≡ R
-        → parPlaces (pick u (par s (only (λ q. f (b + s * 262144 + q)) ns) (subsOnly f (b + s * 262144) gs) ∷ S) S) ≡ pick u (s ∷ R) R
+        → parPlaces (pick u (par s (only (λ q. f (b + s * ofS + q)) ns) (subsOnly f (b + s * ofS) gs) ∷ S) S) ≡ pick u (s ∷ R) R
     go true e = ap (λ (x : List ℕ). s ∷ x) e
     go false e = e
 
@@ -93,7 +95,7 @@ pars-good f b [] g = tt
 pars-good f b ((par s ns gs) ∷ ps) g = go (f c) (pars-good f b ps (g .3))
   where
     c : ℕ
-    c = b + s * 262144
+    c = b + s * ofS
 
     go : (u : Bool) → GoodPars (parsOnly f b ps) → GoodPars (pick u (par s (only (λ q. f (c + q)) ns) (subsOnly f c gs) ∷ parsOnly f b ps) (parsOnly f b ps))
     go true h =
@@ -103,14 +105,14 @@ pars-good f b ((par s ns gs) ∷ ps) g = go (f c) (pars-good f b ps (g .3))
 pub tree-only-good : (f : ℕ → Bool) (b : ℕ) (T : Tree) → GoodTree T → GoodTree (treeOnly f b T)
 unfolding GoodTree treeOnly
 tree-only-good f b (tree ns ps) g =
-    (rising-only (λ q. f (b + q)) 0 ns (g .0), rw (places-pars-only f b ps) (rising-only (λ s. f (b + s * 262144)) 0 (parPlaces ps) (g .1)), pars-good f b ps (g .2))
+    (rising-only (λ q. f (b + q)) 0 ns (g .0), rw (places-pars-only f b ps) (rising-only (λ s. f (b + s * ofS)) 0 (parPlaces ps) (g .1)), pars-good f b ps (g .2))
 
 -- ---- its codes
 
 -- what passes has its parents pass: the NPar positions and the SPar(2) positions under a code that is no field's own
 pub record Parented (f : ℕ → Bool) : Type 0 where
-  pub npar : (c q : ℕ) → c % 512 ≡ 0 → 0 < c % 134217728 → 0 < q → q < 512 → f (c + q) ≡ true → f c ≡ true
-  pub spar : (c q : ℕ) → c % 262144 ≡ 0 → 0 < c % 134217728 → 0 < q → q < 512 → f (c + q * 512) ≡ true → f c ≡ true
+  pub npar : (c q : ℕ) → c % 512 ≡ 0 → 0 < c % ofF → 0 < q → q < 512 → f (c + q) ≡ true → f c ≡ true
+  pub spar : (c q : ℕ) → c % ofS ≡ 0 → 0 < c % ofF → 0 < q → q < 512 → f (c + q * 512) ≡ true → f c ≡ true
 
 -- the codes of the positions that pass are the codes that do
 shift-only : (f : ℕ → Bool) (c : ℕ) (ks : List ℕ) → shift c (only (λ q. f (c + q)) ks) ≡ only f (shift c ks)
@@ -126,22 +128,22 @@ shift-only f c (k ∷ ks) = go (f (c + k)) (shift-only f c ks)
     go false e = e
 
 -- the codes of an SPar(1) and of an SPar(2) are no field's own
-own-par : (b s : ℕ) → b % 134217728 ≡ 0 → 0 < s → s ≤ 511 → 0 < (b + s * 262144) % 134217728
+own-par : (b s : ℕ) → b % ofF ≡ 0 → 0 < s → s ≤ 511 → 0 < (b + s * ofS) % ofF
 own-par b s a lo hi =
-    let e : b + s * 262144 ≡ b / 134217728 * 134217728 + s * 262144 = omega arith in
-    let m : (b + s * 262144) % 134217728 ≡ s * 262144 = ap (λ (x : ℕ). x % 134217728) e ∙ digits-mod (b / 134217728) (omega arith) in
+    let e : b + s * ofS ≡ b / ofF * ofF + s * ofS = omega arith in
+    let m : (b + s * ofS) % ofF ≡ s * ofS = ap (λ (x : ℕ). x % ofF) e ∙ digits-mod (b / ofF) (omega arith) in
     omega arith
 
-own-sub : (c t : ℕ) → c % 262144 ≡ 0 → 0 < t → t ≤ 511 → 0 < (c + t * 512) % 134217728
+own-sub : (c t : ℕ) → c % ofS ≡ 0 → 0 < t → t ≤ 511 → 0 < (c + t * 512) % ofF
 own-sub c t a lo hi =
-    let j = c / 262144 in
-    let e : c + t * 512 ≡ j / 512 * 134217728 + (j % 512 * 262144 + t * 512) = omega arith in
-    let m : (c + t * 512) % 134217728 ≡ j % 512 * 262144 + t * 512 = ap (λ (x : ℕ). x % 134217728) e ∙ digits-mod (j / 512) (omega arith) in
+    let j = c / ofS in
+    let e : c + t * 512 ≡ j / 512 * ofF + (j % 512 * ofS + t * 512) = omega arith in
+    let m : (c + t * 512) % ofF ≡ j % 512 * ofS + t * 512 = ap (λ (x : ℕ). x % ofF) e ∙ digits-mod (j / 512) (omega arith) in
     omega arith
 
 module _ (f : ℕ → Bool) (p : Parented f) where
   -- under a code that fails no NPar passes
-  no-npar : (c lo : ℕ) (ks : List ℕ) → c % 512 ≡ 0 → 0 < c % 134217728 → f c ≡ false → Rising lo ks → only f (shift c ks) ≡ []
+  no-npar : (c lo : ℕ) (ks : List ℕ) → c % 512 ≡ 0 → 0 < c % ofF → f c ≡ false → Rising lo ks → only f (shift c ks) ≡ []
   unfolding Rising only
   no-npar c lo [] a s n r = refl
   no-npar c lo (k ∷ ks) a s n r = go (f (c + k)) refl (no-npar c k ks a s n (r .2))
@@ -151,7 +153,7 @@ module _ (f : ℕ → Bool) (p : Parented f) where
       go false e h = h
 
   -- and no SPar(2) node is left
-  no-subs : (c lo : ℕ) (gs : List Sub) → c % 262144 ≡ 0 → 0 < c % 134217728 → f c ≡ false → Rising lo (subPlaces gs) → subsOnly f c gs ≡ []
+  no-subs : (c lo : ℕ) (gs : List Sub) → c % ofS ≡ 0 → 0 < c % ofF → f c ≡ false → Rising lo (subPlaces gs) → subsOnly f c gs ≡ []
   unfolding Rising subsOnly
   no-subs c lo [] a s n r = refl
   no-subs c lo ((sub t ks) ∷ gs) a s n r = go (f (c + t * 512)) refl (no-subs c t gs a s n (r .2))
@@ -161,7 +163,7 @@ module _ (f : ℕ → Bool) (p : Parented f) where
       go false e h = h
 
   -- the codes of the SPar(2) nodes that are left
-  subs-only : (c lo : ℕ) (gs : List Sub) → c % 262144 ≡ 0 → Rising lo (subPlaces gs) → GoodSubs gs → subsCodes c (subsOnly f c gs) ≡ only f (subsCodes c gs)
+  subs-only : (c lo : ℕ) (gs : List Sub) → c % ofS ≡ 0 → Rising lo (subPlaces gs) → GoodSubs gs → subsCodes c (subsOnly f c gs) ≡ only f (subsCodes c gs)
   unfolding Rising GoodSubs subsCodes subsOnly only
   subs-only c lo [] a r g = refl
   subs-only c lo ((sub t ks) ∷ gs) a r g = go (f e) refl (subs-only c t gs a (r .2) (g .1))
@@ -180,13 +182,13 @@ module _ (f : ℕ → Bool) (p : Parented f) where
           rw (only-append f (shift e ks) (subsCodes c gs), none) ih
 
   -- those of the SPar(1) nodes
-  pars-only : (b lo : ℕ) (ps : List Par) → b % 134217728 ≡ 0 → Rising lo (parPlaces ps) → GoodPars ps → parsCodes b (parsOnly f b ps) ≡ only f (parsCodes b ps)
+  pars-only : (b lo : ℕ) (ps : List Par) → b % ofF ≡ 0 → Rising lo (parPlaces ps) → GoodPars ps → parsCodes b (parsOnly f b ps) ≡ only f (parsCodes b ps)
   unfolding Rising GoodPars parsCodes parsOnly only
   pars-only b lo [] a r g = refl
   pars-only b lo ((par s ns gs) ∷ ps) a r g = go (f c) refl (pars-only b s ps a (r .2) (g .3))
     where
       c : ℕ
-      c = b + s * 262144
+      c = b + s * ofS
 
       S : List Par
       S = parsOnly f b ps
@@ -197,7 +199,7 @@ module _ (f : ℕ → Bool) (p : Parented f) where
       G : List ℕ
       G = subsCodes c gs
 
-      own : 0 < c % 134217728
+      own : 0 < c % ofF
       own = own-par b s a (omega (arith, r .0)) (r .1)
 
       below : subsCodes c (subsOnly f c gs) ≡ only f G
@@ -215,7 +217,7 @@ module _ (f : ℕ → Bool) (p : Parented f) where
           rw (only-append f (N ++ G) (parsCodes b ps), only-append f N G, npar, spar) ih
 
   -- the codes of what is left of a good tree are those of its codes that pass
-  pub tree-only-codes : (b : ℕ) (T : Tree) → b % 134217728 ≡ 0 → GoodTree T → treeCodes b (treeOnly f b T) ≡ only f (treeCodes b T)
+  pub tree-only-codes : (b : ℕ) (T : Tree) → b % ofF ≡ 0 → GoodTree T → treeCodes b (treeOnly f b T) ≡ only f (treeCodes b T)
   unfolding GoodTree treeCodes treeOnly
   tree-only-codes b (tree ns ps) a g =
       rw (shift-only f b ns, pars-only b 0 ps a (g .1) (g .2)) (sym (only-append f (shift b ns) (parsCodes b ps)))
@@ -320,7 +322,7 @@ pars-fewer f b [] g = omega arith
 pars-fewer f b ((par s ns gs) ∷ ps) g = go (f c) (pars-fewer f b ps (g .3))
   where
     c : ℕ
-    c = b + s * 262144
+    c = b + s * ofS
 
     test : ℕ → Bool
     test q = f (c + q)
@@ -344,7 +346,7 @@ pub tree-fewer : (f : ℕ → Bool) (b : ℕ) (T : Tree) → GoodTree T → leng
 unfolding GoodTree treeOctets treeOnly
 tree-fewer f b (tree ns ps) g =
     let one : ℕ → Bool = λ q. f (b + q) in
-    let two : ℕ → Bool = λ s. f (b + s * 262144) in
+    let two : ℕ → Bool = λ s. f (b + s * ofS) in
     let P = parsOnly f b ps in
     let few : length (block 7 128 (parPlaces P)) ≤ length (block 7 128 (parPlaces ps)) = rw (places-pars-only f b ps) (block-fewer 7 128 (omega arith) two (parPlaces ps) (g .1)) in
     rw (length-append (block 7 128 (only one ns)), length-append (block 7 128 (parPlaces P)), length-append (block 7 128 ns), length-append (block 7 128 (parPlaces ps)))

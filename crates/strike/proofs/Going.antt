@@ -1,27 +1,28 @@
 -- A field rewritten piece by piece: octets put one run after the other; the octets of several positions, of those set in an octet and
 -- of those set in a block; and the pieces that a group, a Par(2) block and a field are made of.
 -- Assumes nothing.
-use Prim.Native.Nat.{ℕ, zero, suc, _+_, _-_, _*_, _/_, _%_, _≤_, _<_}
+use Prim.Native.Nat.{ℕ, zero, suc, _+_, _-_, _*_, _/_, _%_, _^_, _≤_, _<_}
 use mathlib.Core.Path.{_≡_, refl, sym, ap, _∙_}
 use mathlib.Core.Bool.{true, false}
 use mathlib.Core.List.{List, [], _∷_, _++_, append-assoc, append-nil}
+use native.Mathlib.Nat.{mod-lt}
 use native.Mathlib.Numerals.{add-one}
 use native.Mathlib.Omega.{arith}
 use borrow.Author.Tests.{lt-ltb, le-ltb}
+use lib.Count.{trailingZeros}
 use lib.Dec.{ltb}
 use lib.ListN.{length, getD, set, drop-of-length-le, length-append}
+use lib.Pow.{pow-pos, shr-le}
 use lib.Seq.{sets, length-sets, drop-cons}
 use Rattle.octets.specs.Places.{pick}
 use Rattle.tree.specs.Block.{setBits, blockNumbers, numbers, behind, ended}
-use Rattle.tree.specs.Codes.{subsBehind, groupBehind, parsBehind, restBehind, fieldBehind}
-use Rattle.tree.specs.Fields.{baseOf}
-use Rattle.tree.specs.declared.Field.{Field}
-use Rattle.tree.specs.declared.Field.the-variants.{Identification, Standard}
+use Rattle.tree.specs.Codes.{subsBehind, groupBehind, parsBehind, restBehind, fieldBehind, ofS}
 use Rattle.tree.proofs.Few.{few, group-few}
 use Rattle.tree.proofs.Filling.{sets-append}
-use Rattle.writer.specs.Written.{marked}
-use Rattle.writer.specs.Writer.{isEmpty}
-use Rattle.writer.proofs.Putting.{sets-marked, length-marked, block-some}
+use Rattle.tree.proofs.Lowest.{Lowest, lowest, bits-none, bits-below}
+use Rattle.meaning.specs.Written.{marked}
+use Rattle.meaning.specs.Writing.{isEmpty}
+use Rattle.meaning.proofs.Blocks.{sets-marked, length-marked, block-some}
 use Rattle.names.specs.Masks.{nparPlaces, sparPlaces}
 use Rattle.names.specs.Inner.{keptPlace}
 use Rattle.names.specs.declared.Keep.{Keep}
@@ -182,48 +183,59 @@ module _ {one : ℕ → ℕ → List ℕ} {many : List ℕ → ℕ → List ℕ}
 
 -- ---- the positions set in one octet
 
--- a bit of it is set, or not
-bits-hit : (w p d : ℕ) → 0 < w → d % 2 ≡ 1 → setBits w p d ≡ (p + 1) ∷ setBits (w - 1) (p + 1) (d / 2)
-unfolding setBits
-bits-hit zero p d some h = absurd (omega arith)
-bits-hit (suc w) p d some h = let e : suc w - 1 ≡ w = omega arith in rw (h, e)
-
-bits-miss : (w p d : ℕ) → 0 < w → (d % 2 ≡ 1 → ⊥) → setBits w p d ≡ setBits (w - 1) (p + 1) (d / 2)
-unfolding setBits
-bits-miss zero p d some h = absurd (omega arith)
-bits-miss (suc w) p d some h = let e : suc w - 1 ≡ w = omega arith in let z : d % 2 ≡ 0 = omega arith in rw (z, e)
-
--- of the w positions of an octet above a number all but the last, left, were looked at, those up to p
-pub record BitsGoing (many : List ℕ → ℕ → List ℕ) (pasts : ℕ → ℕ → ℕ) (size w above octet : ℕ) (start : Spot) (out₀ out : List ℕ) (spot : Spot) (bits p left : ℕ) : Type 0 where
-  pub going : Going many pasts size (setBits w above octet) start out₀ (setBits left p bits) out spot
+-- of the w positions of an octet above a number those up to p were looked at; the others, left, are the bits of a number
+pub record BitsGoing (many : List ℕ → ℕ → List ℕ) (pasts : ℕ → ℕ → ℕ) (size w above octet : ℕ) (start : Spot) (out₀ out : List ℕ) (spot : Spot) (bits p : ℕ) : Type 0 where
+  pub left : ℕ
+  pub few : left ≤ w
+  pub fits : bits < 2 ^ left
   pub reach : p + left ≡ above + w
+  pub going : Going many pasts size (setBits w above octet) start out₀ (setBits left p bits) out spot
 
 module _ {one : ℕ → ℕ → List ℕ} {many : List ℕ → ℕ → List ℕ} {past : ℕ → ℕ} {pasts : ℕ → ℕ → ℕ} {size : ℕ} (x : Stepped one many past pasts size) {w above octet : ℕ} where
-  -- none was looked at yet, and all were
-  pub bits-none : (out : List ℕ) (start : Spot) → start .from ≤ size → BitsGoing many pasts size w above octet start out out start octet above w
-  bits-none out start h = record { going = going-none x (setBits w above octet) out start h; reach = refl }
+  -- none was looked at yet
+  pub bits-start : (out : List ℕ) (start : Spot) → start .from ≤ size → BitsGoing many pasts size w above octet start out out start (octet % 2 ^ w) above
+  bits-start out start h = record {
+    left = w;
+    few = omega arith;
+    fits = mod-lt octet (pow-pos w);
+    reach = refl;
+    going = rw (bits-below w above octet) (going-none x (setBits w above octet) out start h);
+  }
 
-  pub bits-end : {out₀ out : List ℕ} {start spot : Spot} {bits p left : ℕ} → BitsGoing many pasts size w above octet start out₀ out spot bits p left → left ≤ 0
-      → Puts (many (setBits w above octet) (start .from)) (pasts (length (setBits w above octet)) (start .from)) out₀ (start .to) out spot
-  unfolding setBits
-  bits-end {left = zero} y h = going-end x (y .going)
-  bits-end {left = suc left} y h = absurd (omega arith)
+  module _ {out₀ out : List ℕ} {start spot : Spot} {bits p : ℕ} (y : BitsGoing many pasts size w above octet start out₀ out spot bits p) where
+    -- all were
+    pub bits-end : bits ≡ 0 → Puts (many (setBits w above octet) (start .from)) (pasts (length (setBits w above octet)) (start .from)) out₀ (start .to) out spot
+    bits-end z = let none : setBits (y .left) p bits ≡ [] = rw z (bits-none (y .left) p) in going-end x (rw none at (y .going))
 
-  module _ {out₀ out : List ℕ} {start spot : Spot} {bits p left : ℕ} (y : BitsGoing many pasts size w above octet start out₀ out spot bits p left) (some : 0 < left) where
-    -- the next is not set, or it is
-    pub bits-pass : (bits % 2 ≡ 1 → ⊥) → BitsGoing many pasts size w above octet start out₀ out spot (bits / 2) (p + 1) (left - 1)
-    bits-pass h = record { going = rw (bits-miss left p bits some h) at (y .going); reach = omega (arith, y .reach) }
+    -- the next one is, by the zeros below the lowest bit that is left
+    module _ (narrow : w ≤ 7) (z : bits ≡ 0 → ⊥) where
+      abbrev next : ℕ
+      next = p + (trailingZeros 8 bits + 1)
 
-    module _ (h : bits % 2 ≡ 1) where
-      here : Going many pasts size (setBits w above octet) start out₀ ((p + 1) ∷ setBits (left - 1) (p + 1) (bits / 2)) out spot
-      here = rw (bits-hit left p bits some h) at (y .going)
+      low : Lowest (y .left) p bits (trailingZeros 8 bits)
+      low = lowest 8 (y .left) p bits (omega (arith, y .few)) (omega arith) (y .fits)
 
-      pub bits-room : start .to + length (many (setBits w above octet) (start .from)) ≤ length out₀ → spot .to + length (one (p + 1) (spot .from)) ≤ length out
-      bits-room = going-room-one x (p + 1) (setBits (left - 1) (p + 1) (bits / 2)) here
+      pub bits-reach : (trailingZeros 8 bits < 7) × (next ≤ above + w)
+      bits-reach = omega (arith, low .0, y .reach, y .few)
 
-      pub bits-turn : {out₁ : List ℕ} {spot₁ : Spot} → Puts (one (p + 1) (spot .from)) (past (spot .from)) out (spot .to) out₁ spot₁
-          → BitsGoing many pasts size w above octet start out₀ out₁ spot₁ (bits / 2) (p + 1) (left - 1)
-      bits-turn z = record { going = going-turn-one x (p + 1) (setBits (left - 1) (p + 1) (bits / 2)) here z; reach = omega (arith, y .reach) }
+      pub bits-less : bits / 2 ^ trailingZeros 8 bits / 2 < bits
+      bits-less = omega (arith, shr-le bits (trailingZeros 8 bits))
+
+      here : Going many pasts size (setBits w above octet) start out₀ (next ∷ setBits (y .left - (trailingZeros 8 bits + 1)) next (bits / 2 ^ trailingZeros 8 bits / 2)) out spot
+      here = rw (low .1) at (y .going)
+
+      pub bits-room : start .to + length (many (setBits w above octet) (start .from)) ≤ length out₀ → spot .to + length (one next (spot .from)) ≤ length out
+      bits-room = going-room-one x next (setBits (y .left - (trailingZeros 8 bits + 1)) next (bits / 2 ^ trailingZeros 8 bits / 2)) here
+
+      pub bits-turn : {out₁ : List ℕ} {spot₁ : Spot} → Puts (one next (spot .from)) (past (spot .from)) out (spot .to) out₁ spot₁
+          → BitsGoing many pasts size w above octet start out₀ out₁ spot₁ (bits / 2 ^ trailingZeros 8 bits / 2) next
+      bits-turn r = record {
+        left = y .left - (trailingZeros 8 bits + 1);
+        few = omega (arith, y .few);
+        fits = low .2;
+        reach = omega (arith, low .0, y .reach);
+        going = going-turn-one x next (setBits (y .left - (trailingZeros 8 bits + 1)) next (bits / 2 ^ trailingZeros 8 bits / 2)) here r;
+      }
 
 -- ---- the positions set in a block
 
@@ -288,7 +300,7 @@ module _ (k : Keep) (c : ℕ) (p : Places) (t : ℕ) (l : List ℕ) (e : ℕ) wh
 
 -- a Par(2) block, kept or passed over
 module _ (k : Keep) (b : ℕ) (p : Places) (q : ℕ) (l : List ℕ) (e : ℕ) where
-  pub par-kept : keptPlace p q ≡ true → parKept k b p q l e ≡ wholePar k (b + q * 262144) l e
+  pub par-kept : keptPlace p q ≡ true → parKept k b p q l e ≡ wholePar k (b + q * ofS) l e
   unfolding parKept
   par-kept h = rw h
 
@@ -354,19 +366,13 @@ module _ (k : Keep) (c : ℕ) (l : List ℕ) (e : ℕ) {p : Places} (n : p ≡ n
 
         -- which has an octet at least
         whole-some : 0 < length (blockKept 6 64 p l e ++ groupKept k c l (behind 64 l e))
-        whole-some = omega (arith, length-append (blockKept 6 64 p l e) (groupKept k c l (behind 64 l e)), block-some 6 64 0 0 (sieved 6 64 p l e))
+        whole-some = omega (arith, length-append (blockKept 6 64 p l e) (groupKept k c l (behind 64 l e)), block-some 6 64 (sieved 6 64 p l e))
 
-        pub whole-last : (0 < v .to) × (v .to ≤ length out₂)
-        whole-last = omega (arith, whole-put .at, whole-some, within, puts-size whole-put)
-
-        pub whole-puts : {out₃ : List ℕ} → out₃ ≡ set out₂ (v .to - 1) (getD out₂ (v .to - 1) 0 % 128 + 128)
+        pub whole-puts : {out₃ : List ℕ} → out₃ ≡ pick (ltb 0 (v .to)) (set out₂ (v .to - 1) (getD out₂ (v .to - 1) 0 % 128 + 128)) out₂
             → Puts (wholePar k c l e) (groupBehind l (behind 64 l e)) out₀ to out₃ v
-        whole-puts m = rw whole-is (puts-marked whole-put whole-some within m)
-
--- no field's codes stand above a higher number
-pub base-most : (f : Field) → baseOf f ≤ 268435456
-base-most Identification = omega arith
-base-most Standard = omega arith
+        whole-puts m =
+            let some : 0 < v .to = omega (arith, whole-put .at, whole-some) in
+            rw whole-is (puts-marked whole-put whole-some within (rw (lt-ltb 0 (v .to) some) at m))
 
 -- a field: NPar(1), SPar(1) and its blocks
 module _ (k : Keep) (b : ℕ) (l : List ℕ) (at : ℕ) {n : Places} (np : n ≡ nparPlaces k b) (out₀ : List ℕ) (to : ℕ) (room : to + length (fieldKept k b l at) ≤ length out₀) where

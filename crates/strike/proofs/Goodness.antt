@@ -15,12 +15,13 @@ use Rattle.tree.specs.Form.{isFine}
 use Rattle.tree.specs.Fields.{codesIn, formIn}
 use Rattle.tree.specs.declared.Field.the-variants as fields
 use Rattle.tree.proofs.Forms.{form-in, field-fits}
-use Rattle.writer.specs.Written.{written}
-use Rattle.writer.proofs.Growing.{written-tree}
-use Rattle.writer.proofs.Minimals.{both-true, minimal-stands}
-use Rattle.writer.proofs.Reading.{treeAt, tree-codes, tree-good}
-use Rattle.writer.proofs.RoundTrip.{field-back}
-use Rattle.writer.proofs.Trees.{treeOctets}
+use Rattle.meaning.specs.Written.{written}
+use Rattle.meaning.proofs.Growing.{written-tree}
+use Rattle.octets.proofs.Laws.{both-true}
+use Rattle.meaning.proofs.Minimals.{minimal-stands}
+use Rattle.meaning.proofs.Reading.{treeAt, tree-codes, tree-good}
+use Rattle.meaning.proofs.RoundTrip.{field-back}
+use Rattle.meaning.proofs.Trees.{treeOctets}
 use Rattle.names.specs.Named.{standardCode}
 use Rattle.names.specs.Masks.{only}
 use Rattle.names.specs.declared.Keep.the-variants.{Standard}

@@ -14,7 +14,8 @@ use Rattle.octets.proofs.Laying.{length-put}
 use Rattle.tree.proofs.Filling.{sets-append}
 use Rattle.tree.specs.Codes.{fieldBase}
 use Rattle.message.specs.Kinds.{hasFields, typeOf}
-use Rattle.message.specs.Reader.{mostOctets, listRoom, standardAt, tailAt, refused, accepted, readMessage}
+use Rattle.tree.specs.Fields.{mostOctets}
+use Rattle.message.specs.Reader.{listRoom, standardAt, tailAt, refused, accepted, readMessage}
 use Rattle.message.proofs.Accepted.{Passed, accepted-passed}
 use Rattle.names.specs.declared.Keep.{Keep}
 use Rattle.names.specs.declared.Keep.the-variants.{Named}

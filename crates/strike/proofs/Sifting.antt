@@ -1,25 +1,25 @@
--- What is kept of one octet of a block: its bits under the names, as one number. It has just the kept positions, and no other number
--- below the delimiter has them.
+-- What is kept of one octet of a block: its bits under the names, as one number, which has just the kept positions.
 -- Assumes nothing.
-use Prim.Native.Nat.{ℕ, zero, suc, _+_, _*_, _-_, _/_, _%_, _^_, _<_, min}
+use Prim.Native.Nat.{ℕ, zero, suc, _+_, _-_, _/_, _%_, _^_, _≤_, _<_, min}
 use mathlib.Core.Bool.{Bool, true, false}
-use mathlib.Core.List.{List, [], _∷_}
+use mathlib.Core.List.{List}
 use mathlib.Core.Path.{_≡_, refl, sym, ap, _∙_}
-use native.Mathlib.Nat.{mod-lt, pow-suc, div-add-mod', div-eq-of-lt, mod-eq-of-lt}
+use native.Mathlib.Nat.{mod-lt, div-eq-of-lt, mod-eq-of-lt}
 use native.Mathlib.Omega.{arith}
-use borrow.Author.Tests.{eq-eqb, ne-eqb}
-use lib.Bits.{bitAnd, and-step, and-mod, and-zero-l}
+use borrow.Author.Tests.{ne-eqb}
+use lib.Bits.{bitAnd, and-step, and-mod, and-mask, and-zero-l}
 use lib.Dec.{eqb}
-use lib.Pow.{pow-pos, pow-mono, shr-shr}
+use lib.Pow.{pow-pos, pow-mono, mod-mod-pow, shr-shr}
 use Rattle.octets.specs.Bits.{odd}
 use Rattle.octets.specs.Places.{pick}
 use Rattle.tree.specs.Block.{keep, setBits}
-use Rattle.writer.specs.Writer.{isEmpty}
-use Rattle.writer.proofs.Blocks.{setBits-over}
+use Rattle.tree.proofs.Lowest.{lowest, bits-none, bits-below}
+use Rattle.meaning.specs.Writing.{isEmpty}
 use Rattle.names.specs.Masks.{only}
 use Rattle.names.specs.Inner.{keptPlace}
 use Rattle.names.specs.declared.Places.{Places}
 use Rattle.names.proofs.Sieving.{only-all}
+use Rattle.strike.specs.Inner.{namesAt}
 
 -- ---- bits under a mask
 
@@ -52,12 +52,6 @@ masked f (suc w) p d n h =
         let halves : n / 2 / 2 ^ i ≡ n / 2 ^ suc i = rw next at (shr-shr n 1 i) in
         rw halves (rw on at (h (suc i)))
 
--- bits above the w lowest are no matter
-setBits-low : (w p d : ℕ) → setBits w p (d % 2 ^ w) ≡ setBits w p d
-setBits-low w p d =
-    let parts : d % 2 ^ w + d / 2 ^ w * 2 ^ w ≡ d = omega (arith, div-add-mod' d (2 ^ w)) in
-    sym (setBits-over w p (d % 2 ^ w) (d / 2 ^ w)) ∙ rw parts
-
 -- ---- the kept octet
 
 -- the bits of an octet that are kept, its positions standing above p
@@ -83,49 +77,16 @@ unfolding keptOctet
 kept-bits w places p d = go (places .all) refl
   where
     go : (t : Bool) → places .all ≡ t → setBits w p (pick t d (bitAnd d (places .bits / 2 ^ p)) % 2 ^ w) ≡ only (keptPlace places) (setBits w p d)
-    go true e = setBits-low w p d ∙ sym (only-all (keptPlace places) _ (λ x i. rw e))
-    go false e = setBits-low w p (bitAnd d (places .bits / 2 ^ p)) ∙ masked (keptPlace places) w p d (places .bits / 2 ^ p) named
+    go true e = bits-below w p d ∙ sym (only-all (keptPlace places) _ (λ x i. rw e))
+    go false e = bits-below w p (bitAnd d (places .bits / 2 ^ p)) ∙ masked (keptPlace places) w p d (places .bits / 2 ^ p) named
       where
         named : (i : ℕ) → keptPlace places (p + i + 1) ≡ odd (places .bits / 2 ^ p / 2 ^ i)
         named i = let at : p + i + 1 - 1 ≡ p + i = omega arith in rw (e, at, shr-shr (places .bits) p i)
 
--- ---- no other octet has these bits
-
--- the number that has a bit for each number of a list, counted from p + 1
-unfoldable valueOf : ℕ → List ℕ → ℕ
-valueOf p [] = 0
-valueOf p (q ∷ l) = 2 ^ (q - p - 1) + valueOf p l
-
-value-keep : (p i b : ℕ) (l : List ℕ) → b < 2 → valueOf p (keep b (p + i + 1) l) ≡ b * 2 ^ i + valueOf p l
-unfolding valueOf
-value-keep p i zero l h = omega arith
-value-keep p i (suc zero) l h = let at : p + i + 1 - p - 1 ≡ i = omega arith in rw at (omega arith)
-value-keep p i (suc (suc b)) l h = absurd (omega arith)
-
-value-bits : (w p i d : ℕ) → d < 2 ^ w → valueOf p (setBits w (p + i) d) ≡ d * 2 ^ i
-unfolding setBits
-value-bits zero p i d h = let z : d ≡ 0 = omega arith in rw z (unfold valueOf in omega arith)
-value-bits (suc w) p i d h =
-    let on : p + i + 1 ≡ p + suc i = omega arith in
-    let less : d / 2 < 2 ^ w = omega (arith, rw (pow-suc 2 w) at h) in
-    let rest : valueOf p (setBits w (p + i + 1) (d / 2)) ≡ d / 2 * (2 ^ i * 2) = rw (on, ← (pow-suc 2 i)) (value-bits w p (suc i) (d / 2) less) in
-    rw (value-keep p i (d % 2) (setBits w (p + i + 1) (d / 2)) (omega arith), rest) (omega (arith, ap (λ (n : ℕ). n * 2 ^ i) (div-add-mod' d 2)))
-
--- an octet is known by its bits
-octet-known : (w p a : ℕ) → a < 2 ^ w → valueOf p (setBits w p a) ≡ a
-octet-known w p a h =
-    let start : p + 0 ≡ p = omega arith in
-    let all : a * 2 ^ 0 ≡ a = omega arith in
-    rw (start, all) at (value-bits w p 0 a h)
-
 -- nothing is set only in 0
 pub no-bits : (w p x : ℕ) → x < 2 ^ w → isEmpty (setBits w p x) ≡ eqb x 0
-unfolding valueOf
-no-bits w p x h = go (setBits w p x) (octet-known w p x h)
-  where
-    go : (s : List ℕ) → valueOf p s ≡ x → isEmpty s ≡ eqb x 0
-    go [] e = sym (eq-eqb x 0 (sym e))
-    go (q ∷ s) e = sym (ne-eqb x 0 (λ z. omega (arith, pow-pos (q - p - 1))))
+no-bits w p zero h = rw (bits-none w p)
+no-bits w p (suc x) h = rw (lowest w w p (suc x) (omega arith) (omega arith) h .1) (sym (ne-eqb (suc x) 0 (λ z. omega arith)))
 
 -- ---- as the code has it, with the delimiter for 2 ^ w
 
@@ -133,26 +94,26 @@ no-bits w p x h = go (setBits w p x) (octet-known w p x h)
 pub names-end : (n p : ℕ) → n < 4294967296 → 31 < p → 0 ≡ n / 2 ^ p
 names-end n p h k = sym (div-eq-of-lt (omega (arith, pow-mono {i = 32} {j = p} k)))
 
--- a number that is the kept octet has the kept bits
-pub keeps-kept : (w m : ℕ) (places : Places) (p d r : ℕ) → m ≡ 2 ^ w → r ≡ keptOctet w places p d → (setBits w p r ≡ only (keptPlace places) (setBits w p d)) × (r < m)
-keeps-kept w m places p d r mark e = (rw e (kept-bits w places p d), omega (arith, kept-below w places p d))
-
--- the kept octet, where all are kept and under the names
-pub kept-whole : (w m : ℕ) (places : Places) (p d : ℕ) → m ≡ 2 ^ w → places .all ≡ true → d % m ≡ keptOctet w places p d
+-- the kept octet, by the names from it on
+pub kept-running : (w m : ℕ) (places : Places) (p d n : ℕ) → m ≡ 2 ^ w → w ≤ 7 → n ≡ namesAt places p → bitAnd (d % m) (n % m) ≡ keptOctet w places p d
 unfolding keptOctet
-kept-whole w m places p d mark e = rw (e, mark)
+kept-running w m places p d n mark narrow h = rw mark (go (places .all) h)
+  where
+    go : (t : Bool) → n ≡ pick t 127 (places .bits / 2 ^ p) → bitAnd (d % 2 ^ w) (n % 2 ^ w) ≡ pick t d (bitAnd d (places .bits / 2 ^ p)) % 2 ^ w
+    go true e =
+        let seven : 7 - w + w ≡ 7 = omega arith in
+        let whole : bitAnd d 127 ≡ d % 2 ^ (7 - w + w) = rw seven (and-mask d 7) in
+        rw e (sym (and-mod d 127 w) ∙ ap (λ (n : ℕ). n % 2 ^ w) whole ∙ mod-mod-pow d (7 - w) w)
+    go false e = rw e (sym (and-mod d (places .bits / 2 ^ p) w))
 
-pub kept-named : (w m : ℕ) (places : Places) (p d n : ℕ) → m ≡ 2 ^ w → places .all ≡ false → n ≡ places .bits / 2 ^ p → bitAnd (d % m) (n % m) ≡ keptOctet w places p d
-unfolding keptOctet
-kept-named w m places p d n mark e h = rw (e, mark, h) (sym (and-mod d (places .bits / 2 ^ p) w))
+-- the names of the next octet
+pub names-on : (places : Places) (p w n : ℕ) {step : ℕ} → n ≡ namesAt places p → step ≡ pick (places .all) 0 w → n / 2 ^ step ≡ namesAt places (p + w)
+names-on places p w n {step} h k = go (places .all) h k
+  where
+    go : (t : Bool) → n ≡ pick t 127 (places .bits / 2 ^ p) → step ≡ pick t 0 w → n / 2 ^ step ≡ pick t 127 (places .bits / 2 ^ (p + w))
+    go true e f = rw (e, f)
+    go false e f = rw (e, f) (shr-shr (places .bits) p w)
 
 -- a single position under the names
 pub place-named : (places : Places) (q n : ℕ) → places .all ≡ false → n ≡ places .bits / 2 ^ (q - 1) → eqb (n % 2) 1 ≡ keptPlace places q
 place-named places q n e h = rw (e, h)
-
--- a number that has the kept bits is the kept octet
-pub kept-only : (w m : ℕ) (places : Places) (p d r : ℕ) → m ≡ 2 ^ w → (setBits w p r ≡ only (keptPlace places) (setBits w p d)) × (r < m) → r ≡ keptOctet w places p d
-kept-only w m places p d r mark h =
-    sym (octet-known w p r (omega (arith, h .1)))
-    ∙ ap (valueOf p) (h .0 ∙ sym (kept-bits w places p d))
-    ∙ octet-known w p (keptOctet w places p d) (kept-below w places p d)

@@ -9,8 +9,8 @@ use Rattle.tree.specs.Form.{blockForm, subsForm, groupForm, parsForm, restForm,
 use Rattle.tree.specs.Fields.{isIn}
 use Rattle.message.specs.Nonstandard.{nsForm, tailForm}
 use Rattle.message.specs.Reader.{messageForm, readMessage}
-use Rattle.writer.specs.Written.{blockFrom, run, from, positions, marked, subsWritten, lowerWritten, parWritten, parsWritten, restWritten, written}
-use Rattle.writer.specs.Writer.{Writing, declined, sent, messageOctets}
+use Rattle.meaning.specs.Written.{blockFrom, run, from, positions, marked, subsWritten, lowerWritten, parWritten, parsWritten, restWritten, written}
+use Rattle.meaning.specs.Writing.{Writing, declined, sent, messageOctets}
 use Rattle.names.specs.Named.{rowsUnder, rowAt, rowOf}
 use Rattle.names.specs.Masks.{only}
 use Rattle.strike.specs.Striking.{struckCodes, struckForm, strikeMessage}

@@ -11,8 +11,8 @@ use lib.Seq.{getD-take, getD-drop}
 use Rattle.octets.specs.Bits.{AreOctets}
 use Rattle.message.specs.Kinds.{typeOf, revisionOf}
 use Rattle.message.specs.Reader.{listRoom, messageCodes, nsPlace, nsSize, nsOf, accepted, readMessage}
-use Rattle.writer.specs.Minimal.{messageMinimal}
-use Rattle.writer.proofs.RoundTrip.{written-is-read, written-is-minimal, written-is-octets}
+use Rattle.meaning.specs.Minimal.{messageMinimal}
+use Rattle.meaning.proofs.RoundTrip.{written-is-read, written-is-minimal, written-is-octets}
 use Rattle.strike.specs.Striking.{struckCodes, struckForm}
 use Rattle.strike.proofs.StruckForms.{struck-is-written}
 

@@ -13,8 +13,8 @@ use Rattle.tree.specs.Codes.{fieldBase, fieldCodes}
 use Rattle.tree.specs.declared.Field.the-variants.{Identification, Standard}
 use Rattle.message.specs.Kinds.{hasFields, typeOf, revisionOf}
 use Rattle.message.specs.Reader.{standardAt, tailAt, messageCodes, nsOf, accepted, readMessage}
-use Rattle.writer.specs.Written.{written}
-use Rattle.writer.proofs.RoundTrip.{accepted-readable, field-back}
+use Rattle.meaning.specs.Written.{written}
+use Rattle.meaning.proofs.RoundTrip.{accepted-readable, field-back}
 use Rattle.names.specs.Named.{namedCode, keeps}
 use Rattle.names.specs.Masks.{only}
 use Rattle.names.specs.declared.Keep.the-variants.{Named}

@@ -11,7 +11,7 @@ use Rattle.octets.specs.Lay.{put}
 use Rattle.octets.specs.Places.{pick}
 use Rattle.octets.proofs.Laying.{put-nil}
 use Rattle.tree.specs.declared.Field.{Field}
-use Rattle.writer.specs.Writer.{Writing, declined, sent, Reply, writeReply, writeLeaves}
+use Rattle.meaning.specs.Writing.{Writing, declined, sent, Reply, writeReply, writeLeaves}
 use Rattle.names.specs.declared.Keep.{Keep}
 use Rattle.strike.specs.Rewriting.{rewritten, Rewrites}
 use Rattle.strike.specs.Striking.{strikeMessage, struckTold, Strikes}

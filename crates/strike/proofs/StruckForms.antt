@@ -10,7 +10,7 @@ use lib.Dec.{eqb}
 use lib.ListN.{length, getD, drop, length-append, length-drop}
 use Rattle.octets.specs.Bits.{AreOctets}
 use Rattle.octets.specs.Places.{pick}
-use Rattle.tree.specs.Codes.{codeOf, fieldBase, fieldCodes}
+use Rattle.tree.specs.Codes.{codeOf, fieldBase, fieldCodes, ofF}
 use Rattle.tree.specs.Form.{isFine, fieldForm}
 use Rattle.tree.specs.Fields.{isIn}
 use Rattle.tree.specs.declared.Field.the-variants.{Identification, Standard}
@@ -21,13 +21,13 @@ use Rattle.message.specs.Nonstandard.{nsAnnounced, tailForm}
 use Rattle.message.specs.Reader.{standardAt, tailAt, nsOf, accepted, readMessage}
 use Rattle.message.proofs.Fields.{parts-fine, parts-fit}
 use Rattle.message.proofs.Checked.{fields-fine, ns-behind}
-use Rattle.writer.specs.Meaning.{allShaped, ascending, allParented}
-use Rattle.writer.specs.Written.{run, from}
-use Rattle.writer.specs.Writer.{sent, nsAgrees, messageOctets, writeMessage, Writable}
-use Rattle.writer.proofs.Growing.{within-at, in-either, in-front}
-use Rattle.writer.proofs.Meanings.{Meant, between-within, meaning-join}
-use Rattle.writer.proofs.Announcing.{field-seven, tail-agrees}
-use Rattle.writer.proofs.RoundTrip.{writable-sent, accepted-readable}
+use Rattle.meaning.specs.Meaning.{allShaped, ascending, allParented}
+use Rattle.meaning.specs.Written.{run, from}
+use Rattle.meaning.specs.Writing.{sent, nsAgrees, messageOctets, writeMessage, Writable}
+use Rattle.meaning.proofs.Growing.{within-at, in-either, in-front}
+use Rattle.meaning.proofs.Meanings.{Meant, between-within, meaning-join}
+use Rattle.meaning.proofs.Announcing.{field-seven, tail-agrees}
+use Rattle.meaning.proofs.RoundTrip.{writable-sent, accepted-readable}
 use Rattle.names.specs.Named.{rowsUnder, rowAt, rowOf, namedCode, keeps}
 use Rattle.names.specs.Masks.{only}
 use Rattle.names.specs.declared.Keep.the-variants.{All, Named}
@@ -92,8 +92,8 @@ module _ (l : List ℕ) (short : length l ≤ 64) where
       let x = codeOf 1 0 0 7 in
       let a = fieldCodes (fieldBase 1) l 1 in
       let kept : isIn x (firstStays l) ≡ isIn x a = in-only (keeps Named) x a ∙ rw ns-named in
-      let range = between-within (fieldBase 2) (fieldBase 2 + 134217728) (secondStays l) (second-means .codes) in
-      let absent : isIn x (secondStays l) ≡ true → ⊥ = λ m. let h = within-at x (fieldBase 2 + 1) (fieldBase 2 + 134217728) (secondStays l) range m in omega arith in
+      let range = between-within (fieldBase 2) (fieldBase 2 + ofF) (secondStays l) (second-means .codes) in
+      let absent : isIn x (secondStays l) ≡ true → ⊥ = λ m. let h = within-at x (fieldBase 2 + 1) (fieldBase 2 + ofF) (secondStays l) range m in omega arith in
       sym (in-first-only x (firstStays l) (secondStays l) absent ∙ kept ∙ field-seven (fieldBase 1) l 1)
 
 module _ (l : List ℕ) (h : hasFields (typeOf l) ≡ true) where

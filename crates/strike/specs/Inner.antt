@@ -1,7 +1,7 @@
 -- Inner: a field rewritten block by block, as the code does it. A block's positions are sieved and written as a minimal block; a
 -- block whose SPar is not kept is passed over whole. One law says that it is `kept`.
 -- Assumes nothing.
-use Prim.Native.Nat.{ℕ, _+_, _*_}
+use Prim.Native.Nat.{ℕ, _+_, _*_, _/_, _^_}
 use mathlib.Core.List.{List, [], _∷_, _++_}
 use mathlib.Core.Path.{_≡_}
 use lib.Dec.{eqb}
@@ -9,15 +9,20 @@ use lib.ListN.{length}
 use lib.Seq.{sets}
 use Rattle.octets.specs.Places.{pick}
 use Rattle.tree.specs.Block.{numbers, behind, ended}
-use Rattle.tree.specs.Codes.{groupBehind}
-use Rattle.writer.specs.Written.{block, marked}
-use Rattle.writer.specs.Writer.{isEmpty}
+use Rattle.tree.specs.Codes.{ofT, groupBehind, ofS}
+use Rattle.message.specs.Kinds.{ms}
+use Rattle.meaning.specs.Written.{block, marked}
+use Rattle.meaning.specs.Writing.{isEmpty}
 use Rattle.names.specs.Masks.{nparPlaces, sparPlaces, only}
 use Rattle.names.specs.Inner.{keptPlace}
 use Rattle.names.specs.declared.Keep.{Keep}
 use Rattle.names.specs.declared.Keep.the-variants.{All, Named}
 use Rattle.names.specs.declared.Places.{Places}
 use Rattle.strike.specs.declared.Spot.{Spot}
+
+-- the names of a block from the position above a number on, as the bits of a number; where all is kept, seven ones
+abbrev pub namesAt : Places → ℕ → ℕ
+namesAt p above = pick (p .all) 127 (p .bits / 2 ^ above)
 
 -- the positions that are kept of the block at place e, and the minimal block of them
 abbrev pub sieved : ℕ → ℕ → Places → List ℕ → ℕ → List ℕ
@@ -28,7 +33,7 @@ blockKept w m p l e = block w m (sieved w m p l e)
 
 -- the NPar(3) block of one SPar(2) position, and those of several, from place e on; p says which SPar(2) are kept
 unfoldable pub subKept : Keep → ℕ → Places → ℕ → List ℕ → ℕ → List ℕ
-subKept k c p t l e = pick (keptPlace p t) (blockKept 6 64 (nparPlaces k (c + t * 512)) l e) []
+subKept k c p t l e = pick (keptPlace p t) (blockKept 6 64 (nparPlaces k (c + t * ofT)) l e) []
 
 unfoldable pub subsKept : Keep → ℕ → Places → List ℕ → List ℕ → ℕ → List ℕ
 subsKept k c p [] l e = []
@@ -49,7 +54,7 @@ unfoldable pub wholePar : Keep → ℕ → List ℕ → ℕ → List ℕ
 wholePar k c l e = marked (blockKept 6 64 (nparPlaces k c) l e ++ groupKept k c l (behind 64 l e))
 
 unfoldable pub parKept : Keep → ℕ → Places → ℕ → List ℕ → ℕ → List ℕ
-parKept k b p s l e = pick (keptPlace p s) (wholePar k (b + s * 262144) l e) []
+parKept k b p s l e = pick (keptPlace p s) (wholePar k (b + s * ofS) l e) []
 
 unfoldable pub parsKept : Keep → ℕ → Places → List ℕ → List ℕ → ℕ → List ℕ
 parsKept k b p [] l e = []
@@ -65,7 +70,7 @@ fieldKept k b l at = blockKept 7 128 (nparPlaces k b) l at ++ restKept k b (spar
 
 -- what is kept of S in a message of a type: all of an MS, which is type 1, else the named
 abbrev pub standardKeep : ℕ → Keep
-standardKeep kind = pick (eqb kind 1) All Named
+standardKeep kind = pick (eqb kind ms) All Named
 
 -- octets were put into the output at the spot's place, and reading went on to a place
 pub record Puts (octets : List ℕ) (from : ℕ) (out₀ : List ℕ) (to : ℕ) (out₁ : List ℕ) (r : Spot) : Type 0 where

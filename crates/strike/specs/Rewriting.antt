@@ -8,10 +8,9 @@ use lib.ListN.{length}
 use Rattle.octets.specs.Lay.{put}
 use Rattle.octets.specs.Places.{pick}
 use Rattle.tree.specs.Form.{isFine}
-use Rattle.tree.specs.Fields.{baseOf, codesIn, formIn}
+use Rattle.tree.specs.Fields.{baseOf, codesIn, formIn, mostOctets}
 use Rattle.tree.specs.declared.Field.{Field}
-use Rattle.message.specs.Reader.{mostOctets}
-use Rattle.writer.specs.Written.{written}
+use Rattle.meaning.specs.Written.{written}
 use Rattle.names.specs.Named.{keeps}
 use Rattle.names.specs.Masks.{only}
 use Rattle.names.specs.declared.Keep.{Keep}

@@ -9,8 +9,9 @@ use lib.ListN.{length}
 use Rattle.octets.specs.Places.{pick}
 use Rattle.tree.specs.Codes.{fieldBase, fieldCodes}
 use Rattle.message.specs.Kinds.{hasFields, typeOf, revisionOf}
-use Rattle.message.specs.Reader.{mostOctets, listRoom, standardAt, nsOf, Reading, refused, accepted, readMessage}
-use Rattle.writer.specs.Writer.{Writing, declined, sent, declinedIf, messageOctets, Reply, writeReply, writeLeaves}
+use Rattle.tree.specs.Fields.{mostOctets}
+use Rattle.message.specs.Reader.{listRoom, standardAt, nsOf, Reading, refused, accepted, readMessage}
+use Rattle.meaning.specs.Writing.{Writing, declined, sent, declinedIf, messageOctets, Reply, writeReply, writeLeaves}
 use Rattle.names.specs.Named.{namedCode}
 use Rattle.names.specs.Masks.{only}
 use Rattle.strike.specs.declared.Struck.{Struck}

@@ -11,7 +11,7 @@ use lib.Dec.{ltb}
 use lib.ListN.{length, drop, length-drop}
 use Rattle.octets.specs.Places.{pick}
 use Rattle.tree.specs.Block.{keep, setBits, blockNumbers, numbers, behind, ended}
-use Rattle.tree.specs.Codes.{subCodes, groupCodes, parCodes, restCodes, fieldCodes}
+use Rattle.tree.specs.Codes.{subCodes, groupCodes, parCodes, restCodes, fieldCodes, ofF, ofS}
 use Rattle.tree.specs.Order.{Ascending, AllBelow}
 use Rattle.tree.specs.Fields.{baseOf, codesIn}
 use Rattle.tree.specs.declared.Field.{Field}
@@ -126,12 +126,12 @@ par-chain : (c : ℕ) (l : List ℕ) (e : ℕ) → length l ≤ 64 → Chain c (
 par-chain c l e h = join c (numbers 6 64 c l e) (c + 448) _ _ (numbers-chain 6 64 c l e (omega arith) h) (group-chain c l (behind 64 l e) h)
 
 -- SPar(1) positions above s0, with their Par(2) blocks
-pars-chain : (b s0 : ℕ) (ss l : List ℕ) (e : ℕ) → length l ≤ 64 → Chain s0 ss 448 → Chain (b + s0 * 262144 + 229824) (parCodes b ss l e) (b + 117670336)
+pars-chain : (b s0 : ℕ) (ss l : List ℕ) (e : ℕ) → length l ≤ 64 → Chain s0 ss 448 → Chain (b + s0 * ofS + 229824) (parCodes b ss l e) (b + 117670336)
 unfolding parCodes
 pars-chain b s0 [] l e h k = none _ _ (omega (arith, spans s0 [] 448 k))
 pars-chain b s0 (s ∷ ss) l e h k =
     let q = first s0 s ss 448 k in
-    let c = b + s * 262144 in
+    let c = b + s * ofS in
     some _ _ _ _ (omega (arith, q .0))
     (join c _ (c + 229824) _ _ (par-chain c l e h) (pars-chain b s ss l _ h (q .1)))
 
@@ -140,15 +140,15 @@ codes-chain : (b : ℕ) (l : List ℕ) (at : ℕ) → length l ≤ 64 → Chain 
 unfolding fieldCodes restCodes
 codes-chain b l at h =
     join b (numbers 7 128 b l at) (b + 448) _ _ (numbers-chain 7 128 b l at (omega arith) h)
-    (lower (b + 448) (b + 0 * 262144 + 229824) _ _ (omega arith) (pars-chain b 0 _ l _ h (numbers-chain 7 128 0 l (behind 128 l at) (omega arith) h)))
+    (lower (b + 448) (b + 0 * ofS + 229824) _ _ (omega arith) (pars-chain b 0 _ l _ h (numbers-chain 7 128 0 l (behind 128 l at) (omega arith) h)))
 
 -- the codes of a field ascend
 pub codes-ascending : (b : ℕ) (l : List ℕ) (at : ℕ) → length l ≤ 64 → Ascending b (fieldCodes b l at)
 codes-ascending b l at h = rises b (fieldCodes b l at) (b + 117670336) (codes-chain b l at h)
 
 -- and lie below what the codes of the next field stand above
-pub codes-below : (b : ℕ) (l : List ℕ) (at : ℕ) → length l ≤ 64 → AllBelow (b + 134217728) (fieldCodes b l at)
-codes-below b l at h = stays b (fieldCodes b l at) (b + 117670336) (b + 134217728) (omega arith) (codes-chain b l at h)
+pub codes-below : (b : ℕ) (l : List ℕ) (at : ℕ) → length l ≤ 64 → AllBelow (b + ofF) (fieldCodes b l at)
+codes-below b l at h = stays b (fieldCodes b l at) (b + 117670336) (b + ofF) (omega arith) (codes-chain b l at h)
 
 -- of either field they ascend in any octets
 pub field-ascending : (f : Field) (l : List ℕ) (at : ℕ) → Ascending (baseOf f) (codesIn f l at)
@@ -180,8 +180,8 @@ module _ (c : ℕ) (l : List ℕ) (e : ℕ) (h : length l ≤ 64) where
   pub sub-between : Ascending c (numbers 6 64 c l e) × AllBelow (c + 512) (numbers 6 64 c l e)
   sub-between = let k = numbers-chain 6 64 c l e (omega arith) h in (rises c _ (c + 448) k, stays c _ (c + 448) (c + 512) (omega arith) k)
 
-  pub par-between : Ascending c (numbers 6 64 c l e ++ groupCodes c l (behind 64 l e)) × AllBelow (c + 262144) (numbers 6 64 c l e ++ groupCodes c l (behind 64 l e))
-  par-between = let k = par-chain c l e h in (rises c _ (c + 229824) k, stays c _ (c + 229824) (c + 262144) (omega arith) k)
+  pub par-between : Ascending c (numbers 6 64 c l e ++ groupCodes c l (behind 64 l e)) × AllBelow (c + ofS) (numbers 6 64 c l e ++ groupCodes c l (behind 64 l e))
+  par-between = let k = par-chain c l e h in (rises c _ (c + 229824) k, stays c _ (c + 229824) (c + ofS) (omega arith) k)
 
   -- what stands behind NPar(2) is above all of its block
   pub group-above : Ascending (c + 448) (groupCodes c l e)

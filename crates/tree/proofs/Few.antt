@@ -10,7 +10,7 @@ use lib.Dec.{ltb}
 use lib.ListN.{length, drop, length-append, length-drop, drop-of-length-le}
 use Rattle.octets.specs.Places.{pick}
 use Rattle.tree.specs.Block.{setBits, blockNumbers, blockEnd, numbers, behind, ended}
-use Rattle.tree.specs.Codes.{subCodes, subsBehind, groupCodes, groupBehind, parCodes, parsBehind, restCodes, restBehind, fieldCodes, fieldBehind}
+use Rattle.tree.specs.Codes.{subCodes, subsBehind, groupCodes, groupBehind, parCodes, parsBehind, restCodes, restBehind, fieldCodes, fieldBehind, ofS}
 use Rattle.tree.proofs.Forms.{bits-most}
 
 -- a block ends no earlier than it begins and no later than the octets, and has at most w parameters for each octet of its own
@@ -68,7 +68,7 @@ pars-few : (b : ℕ) (ss l : List ℕ) (e : ℕ) → e ≤ length l
 unfolding parCodes parsBehind
 pars-few b [] l e h = omega arith
 pars-few b (s ∷ ss) l e h =
-    let c = b + s * 262144 in
+    let c = b + s * ofS in
     let x = behind 64 l e in
     let k = few 6 64 c l e h in
     let g = group-few c l x (k .1) in

@@ -8,7 +8,7 @@ use Prim.Native.Nat.{ℕ, zero, suc, _+_, _*_, _-_, _/_, _%_, _^_, _≤_, _<_}
 use native.Mathlib.Numerals.{add-one}
 use native.Mathlib.Omega.{arith}
 use native.Mathlib.Nat.{mod-lt, mod-one, pow-suc}
-use borrow.Author.Tests.{lt-ltb, le-ltb}
+use borrow.Author.Tests.{ltb-false, lt-ltb, le-ltb}
 use lib.Arith.{mod-mul}
 use lib.Count.{ones, onesIn, ones-cat, ones-le}
 use lib.Dec.{ltb, lit<}
@@ -425,7 +425,7 @@ field-two l at f =
 pub field-fits : (l : List ℕ) (at : ℕ) → fieldForm l at ≡ Fine → (at < fieldBehind l at) × (fieldBehind l at ≤ length l)
 field-fits l at f = omega (arith, field-two l at f)
 
--- what is told of a field, from its form and, where that is fine, its end; and back
+-- what is told of a field, from its form and, where that is fine, its end
 pub reach-fine : {f : Form} {e : ℕ} {r : Reach} → Reaches f e r → isFine (r .form) ≡ true → r ≡ reachOf f e
 reach-fine {f} {e} {r} t z =
     let g : isFine f ≡ true = sym (ap isFine (t .told)) ∙ z in
@@ -436,5 +436,30 @@ reach-none {f} {e} {r} t z =
     let g : isFine f ≡ false = sym (ap isFine (t .told)) ∙ z in
     ap (λ (x : Form). record { form = x; at = 0 }) (t .told) ∙ rw g
 
-pub reach-told : {f : Form} {e : ℕ} {r : Reach} → r ≡ reachOf f e → Reaches f e r
-reach-told {f} {e} {r} q = record { told = ap (λ (x : Reach). x .form) q; at = λ z. ap (λ (x : Reach). x .at) q ∙ rw z }
+-- a field that is found fine stands in octets of a message
+pub fine-in : (l : List ℕ) (at : ℕ) → isFine (formIn l at) ≡ true → (length l ≤ 64) × (fieldForm l at ≡ Fine)
+unfolding formIn
+fine-in l at h = go (ltb 64 (length l)) refl h
+  where
+    go : (t : Bool) → ltb 64 (length l) ≡ t → isFine (pick t (Left 64) (fieldForm l at)) ≡ true → (length l ≤ 64) × (fieldForm l at ≡ Fine)
+    go true e f = let z : _≡_ {A = ℕ} 0 1 = cc in absurd (omega arith)
+    go false e f = (ltb-false 64 (length l) e, is-fine (fieldForm l at) f)
+
+-- a place 0 behind it tells that it is not, and any other is its end
+module _ (l : List ℕ) (at : ℕ) {r : ℕ} (t : r ≡ reachOf (formIn l at) (fieldBehind l at) .at) where
+  end-told : {b : Bool} → isFine (formIn l at) ≡ b → r ≡ pick b (fieldBehind l at) 0
+  end-told e = t ∙ ap (λ (b : Bool). pick b (fieldBehind l at) 0) e
+
+  pub end-none : r ≡ 0 → isFine (formIn l at) ≡ false
+  end-none z = go (isFine (formIn l at)) refl
+    where
+      go : (b : Bool) → isFine (formIn l at) ≡ b → b ≡ false
+      go true e = absurd (omega (arith, field-fits l at (fine-in l at e .1), end-told e))
+      go false e = refl
+
+  pub end-some : (r ≡ 0 → ⊥) → (isFine (formIn l at) ≡ true) × (r ≡ fieldBehind l at)
+  end-some n = go (isFine (formIn l at)) refl
+    where
+      go : (b : Bool) → isFine (formIn l at) ≡ b → (b ≡ true) × (r ≡ fieldBehind l at)
+      go true e = (refl, end-told e)
+      go false e = absurd (n (end-told e))

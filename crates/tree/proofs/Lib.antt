@@ -1,3 +1,4 @@
+pub mod Numbering
 pub mod Forms
 pub mod Lowest
 pub mod Few

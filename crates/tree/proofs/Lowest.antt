@@ -14,7 +14,7 @@ use lib.ListN.{length}
 use lib.Pow.{field, mod-mod-pow, shr-shr}
 use Rattle.octets.specs.Bits.{odd}
 use Rattle.tree.specs.Block.{keep, setBits}
-use Rattle.tree.specs.Codes.{fieldCodes}
+use Rattle.tree.specs.Codes.{fieldCodes, fieldBase}
 use Rattle.tree.specs.Fields.{baseOf, codesIn, isIn}
 use Rattle.tree.specs.declared.Field.{Field}
 use Rattle.tree.specs.declared.Field.the-variants.{Identification, Standard}
@@ -73,7 +73,7 @@ unfolding codesIn
 codes-short f l at h e = rw (e, le-ltb 64 (length l) h)
 
 -- what the codes of a field stand above is small
-pub base-small : (f : Field) → baseOf f ≤ 268435456
+pub base-small : (f : Field) → baseOf f ≤ (fieldBase 2)
 base-small Identification = omega arith
 base-small Standard = omega arith
 

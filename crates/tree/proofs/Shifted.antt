@@ -12,7 +12,7 @@ use lib.Seq.{drop-drop, getD-drop}
 use Rattle.octets.specs.Bits.{odd}
 use Rattle.octets.specs.Places.{pick}
 use Rattle.tree.specs.Block.{blockNumbers, blockEnd, numbers, behind, announced, ended}
-use Rattle.tree.specs.Codes.{subCodes, subsBehind, groupCodes, groupBehind, parCodes, parsBehind, restCodes, restBehind, fieldCodes, fieldBehind}
+use Rattle.tree.specs.Codes.{subCodes, subsBehind, groupCodes, groupBehind, parCodes, parsBehind, restCodes, restBehind, fieldCodes, fieldBehind, ofS}
 use Rattle.tree.specs.Form.{andThen, isFine, blockForm, formAt, lastForm, subsForm, groupForm, parsForm, restForm, fieldForm}
 use Rattle.tree.specs.declared.Form.{Form}
 use Rattle.tree.specs.declared.Form.the-variants.{Fine, Early, Wrong, Left, BadLength}
@@ -156,7 +156,7 @@ module _ (l r : List ℕ) (e : ℕ) (d : drop e l ≡ r) where
   pars-codes b (s ∷ ss) a h =
       let x = behind 64 r a in
       let p : 0 < x = omega (arith, h (omega arith), end-above 64 a (drop a r)) in
-      rw (behind-moved 64 a, octets-moved a, group-codes (b + s * 262144) x p, group-behind x p, pars-codes b ss (groupBehind r x) (λ k. omega (arith, group-above r x)))
+      rw (behind-moved 64 a, octets-moved a, group-codes (b + s * ofS) x p, group-behind x p, pars-codes b ss (groupBehind r x) (λ k. omega (arith, group-above r x)))
 
   pars-behind : (k a : ℕ) → (0 < k → 0 < a) → parsBehind k l (e + a) ≡ e + parsBehind k r a
   unfolding parsBehind

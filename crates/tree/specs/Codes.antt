@@ -1,8 +1,9 @@
 -- To be believed: the codes of a field (RULES, Parameter codes; V.8 bis 8.2.2), in ascending order, and the place behind
 -- it. They are defined for any octets; whether these are well-formed is asked elsewhere (Form).
 -- Assumes nothing.
-use Prim.Native.Nat.{ℕ, zero, suc, _+_, _*_}
+use Prim.Native.Nat.{ℕ, zero, suc, _+_, _-_, _*_, _/_, _%_}
 use mathlib.Core.List.{List, [], _∷_, _++_}
+use lib.Dec.{ltb}
 use Rattle.octets.specs.Places.{pick}
 use Rattle.tree.specs.Block.{numbers, behind, announced, ended}
 
@@ -10,14 +11,41 @@ use Rattle.tree.specs.Block.{numbers, behind, announced, ended}
 abbrev pub codeOf : ℕ → ℕ → ℕ → ℕ → ℕ
 codeOf f s t n = ((f * 512 + s) * 512 + t) * 512 + n
 
+-- what one more of t, of s and of f counts in it
+abbrev pub ofT : ℕ
+ofT = 512
+
+abbrev pub ofS : ℕ
+ofS = 262144
+
+abbrev pub ofF : ℕ
+ofF = 134217728
+
 -- what the codes of field f stand above: f.0.0.0
 abbrev pub fieldBase : ℕ → ℕ
-fieldBase f = f * 134217728
+fieldBase f = f * ofF
+
+-- its parts: f.s.t.n
+abbrev pub fOf : ℕ → ℕ
+fOf c = c / ofF
+
+abbrev pub sOf : ℕ → ℕ
+sOf c = c / ofS % 512
+
+abbrev pub tOf : ℕ → ℕ
+tOf c = c / ofT % 512
+
+abbrev pub nOf : ℕ → ℕ
+nOf c = c % ofT
+
+-- what it stands under: f.s.t.0 for f.s.t.n, and f.s.0.0 for f.s.t.0
+abbrev pub parentOf : ℕ → ℕ
+parentOf c = pick (ltb 0 (nOf c)) (c - c % ofT) (c - c % ofS)
 
 -- SPar(2) positions under the code c, and for each the NPar(3) block that follows, from place e on
 unfoldable pub subCodes : ℕ → List ℕ → List ℕ → ℕ → List ℕ
 subCodes c [] l e = []
-subCodes c (t ∷ ts) l e = (c + t * 512) ∷ numbers 6 64 (c + t * 512) l e ++ subCodes c ts l (behind 64 l e)
+subCodes c (t ∷ ts) l e = (c + t * ofT) ∷ numbers 6 64 (c + t * ofT) l e ++ subCodes c ts l (behind 64 l e)
 
 -- the place behind k blocks below level 1
 unfoldable pub subsBehind : ℕ → List ℕ → ℕ → ℕ
@@ -35,8 +63,8 @@ groupBehind l e = pick (ended l e) e (subsBehind (announced 6 64 l e) l (behind 
 unfoldable pub parCodes : ℕ → List ℕ → List ℕ → ℕ → List ℕ
 parCodes b [] l e = []
 parCodes b (s ∷ ss) l e =
-    (b + s * 262144)
-    ∷ (numbers 6 64 (b + s * 262144) l e ++ groupCodes (b + s * 262144) l (behind 64 l e))
+    (b + s * ofS)
+    ∷ (numbers 6 64 (b + s * ofS) l e ++ groupCodes (b + s * ofS) l (behind 64 l e))
     ++ parCodes b ss l (groupBehind l (behind 64 l e))
 
 -- the place behind k Par(2) blocks

@@ -1,9 +1,12 @@
 -- To be believed: what each public function promises, in the words that its `ensures` and the demands cite.
 -- Assumes nothing.
-use Prim.Native.Nat.{ℕ}
+use Prim.Native.Nat.{ℕ, _+_, _-_, _%_}
 use mathlib.Core.Bool.{Bool}
 use mathlib.Core.List.{List}
 use mathlib.Core.Path.{_≡_}
+use lib.Dec.{ltb}
+use lib.ListN.{getD, set}
+use Rattle.octets.specs.Places.{pick}
 use Rattle.tree.specs.Block.{behind, ended}
 use Rattle.tree.specs.Codes.{fieldBehind}
 use Rattle.tree.specs.Form.{isFine}
@@ -17,6 +20,10 @@ use Rattle.tree.specs.declared.Reach.{Reach}
 abbrev pub TellsBit8 : List ℕ → ℕ → Bool → Type 0
 TellsBit8 s e r = r ≡ ended s e
 
+-- mark_last
+abbrev pub MarksLast : List ℕ → ℕ → List ℕ → Type 0
+MarksLast out₀ e out₁ = out₁ ≡ pick (ltb 0 e) (set out₀ (e - 1) (getD out₀ (e - 1) 0 % 128 + 128)) out₀
+
 -- is_fine
 abbrev pub TellsFine : Form → Bool → Type 0
 TellsFine form r = r ≡ isFine form
@@ -24,6 +31,10 @@ TellsFine form r = r ≡ isFine form
 -- field_form
 abbrev pub TellsForm : List ℕ → ℕ → Reach → Type 0
 TellsForm s at r = r ≡ reachOf (formIn s at) (fieldBehind s at)
+
+-- field_end
+abbrev pub TellsEnd : List ℕ → ℕ → ℕ → Type 0
+TellsEnd s at r = r ≡ reachOf (formIn s at) (fieldBehind s at) .at
 
 -- base_of
 abbrev pub TellsBase : Field → ℕ → Type 0

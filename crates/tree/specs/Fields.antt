@@ -1,4 +1,4 @@
--- To be believed: the total functions over a field: its codes and its form in a message's octets, of which there are 64 at most;
+-- To be believed: the total functions over a field: its codes and its form in a message's octets, of which there are so many at most;
 -- numbers as octets; and one list in another.
 -- Assumes nothing.
 use Prim.Native.Nat.{ℕ, _+_, _/_, _%_}
@@ -7,7 +7,7 @@ use mathlib.Core.List.{List, [], _∷_}
 use lib.Dec.{ltb, eqb}
 use lib.ListN.{length}
 use Rattle.octets.specs.Places.{pick}
-use Rattle.tree.specs.Codes.{fieldBase, groupBehind, fieldCodes}
+use Rattle.tree.specs.Codes.{fieldBase, sOf, groupBehind, fieldCodes}
 use Rattle.tree.specs.Form.{isFine, fieldForm}
 use Rattle.tree.specs.declared.Field.{Field}
 use Rattle.tree.specs.declared.Field.the-variants.{Identification, Standard}
@@ -15,17 +15,21 @@ use Rattle.tree.specs.declared.Form.{Form}
 use Rattle.tree.specs.declared.Form.the-variants.{Left}
 use Rattle.tree.specs.declared.Reach.{Reach}
 
+-- the octets of the longest message
+abbrev pub mostOctets : ℕ
+mostOctets = 64
+
 abbrev pub baseOf : Field → ℕ
 baseOf Identification = fieldBase 1
 baseOf Standard = fieldBase 2
 
 -- the codes of a field; more octets than a message has give none
 unfoldable pub codesIn : Field → List ℕ → ℕ → List ℕ
-codesIn f l at = pick (ltb 64 (length l)) [] (fieldCodes (baseOf f) l at)
+codesIn f l at = pick (ltb mostOctets (length l)) [] (fieldCodes (baseOf f) l at)
 
 -- the form of a field; in more octets than a message has, the 65th is left over
 unfoldable pub formIn : List ℕ → ℕ → Form
-formIn l at = pick (ltb 64 (length l)) (Left 64) (fieldForm l at)
+formIn l at = pick (ltb mostOctets (length l)) (Left mostOctets) (fieldForm l at)
 
 -- what is told of a field: its form, and the place behind it, or 0 where it is not fine
 abbrev pub reachOf : Form → ℕ → Reach
@@ -52,8 +56,8 @@ hasFirst f l at q = pick (ltb 0 q) (pick (ltb q 8) (isIn (baseOf f + q) (codesIn
 -- a list of codes has an SPar(1)
 unfoldable pub hasSpar : List ℕ → Bool
 hasSpar [] = false
-hasSpar (c ∷ l) = pick (ltb 0 (c / 262144 % 512)) true (hasSpar l)
+hasSpar (c ∷ l) = pick (ltb 0 (sOf c)) true (hasSpar l)
 
 -- the place behind what stands in a Par(2) block behind its NPar(2), which ends before e; in more octets than a message has, e
 unfoldable pub groupIn : List ℕ → ℕ → ℕ
-groupIn l e = pick (ltb 64 (length l)) e (groupBehind l e)
+groupIn l e = pick (ltb mostOctets (length l)) e (groupBehind l e)

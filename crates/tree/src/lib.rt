@@ -1,5 +1,5 @@
 // The parameter tree of one field (V.8 bis 8.2): whether it is well-formed, and the places of its blocks.
-ghost use Prim.Native.Nat.{_+_, _/_, _^_, _≤_, _<_};
+ghost use Prim.Native.Nat.{_+_, _-_, _/_, _^_, _≤_, _<_};
 ghost use Rattle.octets.specs.Bits.{odd};
 ghost use Rattle.octets.specs.Places.{pick};
 ghost use Rattle.tree.specs.Block.{behind, announced};
@@ -7,12 +7,25 @@ ghost use Rattle.tree.specs.Codes.{subsBehind, groupBehind, parsBehind, 
 ghost use Rattle.tree.specs.Form.{formAt, subsForm, groupForm, parsForm, restForm};
 ghost use Rattle.tree.specs.Fields.{formIn};
 ghost use Rattle.tree.specs.Inner.{Reaches};
-ghost use Rattle.tree.specs.Contracts.{TellsBit8, TellsFine, TellsForm, TellsBase, TellsSpar, TellsTopBehind, TellsBlockBehind, TellsGroupBehind};
+ghost use Rattle.tree.specs.Contracts.{TellsBit8, MarksLast, TellsFine, TellsForm, TellsEnd, TellsBase, TellsSpar, TellsTopBehind, TellsBlockBehind, TellsGroupBehind};
 ghost use lib.ListN.{length};
 ghost use mathlib.Core.Path.{_≡_};
+use octets::octet_or_zero;
 
 // The octets of the longest message.
-const MOST_OCTETS: usize = 64;
+pub const MOST_OCTETS: usize = 64;
+
+// What one more of t, of s and of f counts in a code f.s.t.n.
+pub const OF_T: u32 = 512;
+
+pub const OF_S: u32 = OF_T * 512;
+
+pub const OF_F: u32 = OF_S * 512;
+
+// What the codes of I and of S stand above.
+pub const IDENTIFICATION: u32 = OF_F;
+
+pub const STANDARD: u32 = OF_F * 2;
 
 // The two fields that are trees.
 pub enum Field {
@@ -95,10 +108,19 @@ pub fn bit8(s: &[u8], e: usize) -> bool
     if 0 < e {
         i = e - 1;
     }
-    if i < s.len() {
-        return 128 <= s[i];
+    128 <= octet_or_zero(s, i)
+}
+
+// Sets bit 8 of the octet before a place, if there is one.
+pub fn mark_last(out: &mut [u8], e: usize)
+    ensures { λ _. ⌜ MarksLast (now (out .entry)) e (now (out .exit)) ⌝ }
+{
+    if e <= out.len() {
+        if 0 < e {
+            let i = e - 1;
+            out[i] = out[i] % 128 + 128;
+        }
     }
-    false
 }
 
 // Whether no rule is broken.
@@ -239,13 +261,21 @@ pub fn field_form(s: &[u8], at: usize) -> Reach
     Reach { form, at: 0 }
 }
 
+// The place behind the field at a place, or 0 where it is not fine.
+pub fn field_end(s: &[u8], at: usize) -> usize
+    ensures { λ r. ⌜ TellsEnd (now (s .entry)) at r ⌝ }
+{
+    let reach = field_form(s, at);
+    reach.at
+}
+
 // What the codes of a field stand above.
 pub fn base_of(field: Field) -> u32
     ensures { λ r. ⌜ TellsBase field r ⌝ }
 {
     match field {
-        Field::Identification => 134217728,
-        Field::Standard => 268435456,
+        Field::Identification => IDENTIFICATION,
+        Field::Standard => STANDARD,
     }
 }
 

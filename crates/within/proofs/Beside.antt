@@ -10,40 +10,34 @@ use lib.Bits.{bitAnd, and-zero-r}
 use lib.ListN.{length, getD, List·getD-eq-default}
 use Rattle.octets.specs.Places.{pick}
 use Rattle.tree.specs.Block.{setBits, blockNumbers, blockEnd, numbers, behind, ended}
-use Rattle.tree.specs.Codes.{subCodes, subsBehind, groupCodes, groupBehind, parCodes, restCodes, fieldCodes}
+use Rattle.tree.specs.Codes.{subCodes, subsBehind, groupCodes, groupBehind, parCodes, restCodes, fieldCodes, ofS}
 use Rattle.tree.specs.Order.{AllFrom}
 use Rattle.within.specs.Pairing.{nextPlace, Compared, BlockWithin, BlockEmpty, subs, pars, AllWithin, GroupWithin, FieldWithin}
 use Rattle.tree.specs.Fields.{baseOf, codesIn, isIn, allIn}
 use Rattle.tree.specs.declared.Field.{Field}
 use Rattle.within.specs.declared.Paired.{Paired}
 use Rattle.within.proofs.Apart.{from-lower, from-ascending, none-within, parts-within, first-within}
-use Rattle.tree.proofs.Ascending.{bits-between, numbers-between, numbers-ascending, sub-between, par-between, group-above}
+use Rattle.tree.proofs.Ascending.{numbers-between, numbers-ascending, sub-between, par-between, group-above}
 use Rattle.tree.proofs.Forms.{behind-stop, behind-go, behind-out}
 use Rattle.within.proofs.Stepping.{subOne, parOne, pars-stepped, many-from}
-use Rattle.within.proofs.Taking.{bits-within, numbers-out, numbers-next, place-on, place-end, place-out}
+use Rattle.within.proofs.Taking.{bits-within, numbers-out, numbers-next, left-parts, place-on, place-end, place-out}
 
 -- ---- a block alone
 
--- of the two blocks as many octets were looked at, all found, and those at i and j are next
+-- of the two blocks as many octets were looked at, all found, and what is asked of them is asked of those from i and j on
 pub record BlockPairing (w m : ℕ) (l : List ℕ) (e : ℕ) (t : List ℕ) (k i j : ℕ) : Type 0 where
-  pub same : (p : ℕ) → (q : ℕ) × (allIn (numbers w m p l e) (numbers w m p t k) ≡ allIn (numbers w m q l i) (numbers w m q t j))
-  pub from : behind m l e ≡ behind m l i
-  pub to : behind m t k ≡ behind m t j
+  pub rest : (r : Paired) → BlockWithin w m l i t j r → BlockWithin w m l e t k r
 
 module _ {w m : ℕ} {l : List ℕ} {e : ℕ} {t : List ℕ} {k : ℕ} where
   -- none was looked at yet
   pub block-start : BlockPairing w m l e t k e k
-  block-start = record { same = λ p. (p, refl); from = refl; to = refl }
+  block-start = record { rest = λ r y. y }
 
   module _ {i j : ℕ} (z : BlockPairing w m l e t k i j) where
     -- the first has no more
     pub block-done : length l ≤ i → {r : Paired} → r .fits ≡ true → r .from ≡ i → r .to ≡ behind m t j → BlockWithin w m l e t k r
     unfolding allIn
-    block-done h f n o = record {
-      told = λ p. let s = z .same p in f ∙ sym (s .1 ∙ rw (numbers-out w m (s .0) l i h));
-      from = λ v. n ∙ sym (z .from ∙ behind-out m i l h);
-      to = λ v. o ∙ sym (z .to);
-    }
+    block-done h f n o = z .rest _ (record { told = λ p. f ∙ rw (numbers-out w m p l i h); from = λ v. n ∙ sym (behind-out m i l h); to = λ v. o })
 
     -- an octet of each is looked at
     module _ (h : m ≡ 2 ^ w) where
@@ -53,67 +47,61 @@ module _ {w m : ℕ} {l : List ℕ} {e : ℕ} {t : List ℕ} {k : ℕ} where
       abbrev b : ℕ
       b = getD t j 0
 
-      octets-parts : (q : ℕ) → allIn (numbers w m q l i) (numbers w m q t j)
-          ≡ pick (allIn (setBits w q a) (setBits w q b)) (allIn (numbers w m (q + w) l (nextPlace m l i)) (numbers w m (q + w) t (nextPlace m t j))) false
-      octets-parts q =
-          rw (numbers-next w m q l i, numbers-next w m q t j)
-          (parts-within (q + w + 1) (setBits w q a) _ (setBits w q b) _ (bits-between w q a .1) (behind-octet l (nextPlace m l i)) (bits-between w q b .1) (behind-octet t (nextPlace m t j)))
-        where
-          behind-octet : (o : List ℕ) (f : ℕ) → AllFrom (q + w + 1) (numbers w m (q + w) o f)
-          behind-octet o f = from-ascending (q + w + 1) (q + w) _ (omega arith) (numbers-ascending w m (q + w) o f)
+      octets-parts : (p : ℕ) → allIn (numbers w m p l i) (numbers w m p t j)
+          ≡ pick (allIn (setBits w p a) (setBits w p b)) (allIn (numbers w m (p + w) l (nextPlace m l i)) (numbers w m (p + w) t (nextPlace m t j))) false
+      octets-parts p = rw (numbers-next w m p l i, numbers-next w m p t j) (left-parts w m w p a b l t (nextPlace m l i) (nextPlace m t j))
 
       -- something is lost under the other
       pub block-lost : (bitAnd (a % m) b ≡ a % m → ⊥) → {r : Paired} → r .fits ≡ false → BlockWithin w m l e t k r
-      block-lost x f = record {
-        told = λ p. let s = z .same p in f ∙ sym (s .1 ∙ octets-parts (s .0) ∙ rw (bits-within w (s .0) a b, ← h, ne-eqb _ _ x));
-        from = λ n. cc;
-        to = λ n. cc;
-      }
+      block-lost x f = z .rest _ (record { told = λ p. f ∙ sym (octets-parts p ∙ rw (bits-within w p a b, ← h, ne-eqb _ _ x)); from = λ n. cc; to = λ n. cc })
 
       -- nothing is
       module _ (x : bitAnd (a % m) b ≡ a % m) where
-        block-on : (p : ℕ) →
-            let q = z .same p .0 + w in
-            allIn (numbers w m p l e) (numbers w m p t k) ≡ allIn (numbers w m q l (nextPlace m l i)) (numbers w m q t (nextPlace m t j))
-        block-on p = let s = z .same p in s .1 ∙ octets-parts (s .0) ∙ rw (bits-within w (s .0) a b, ← h, eq-eqb _ _ x)
+        block-on : (p : ℕ) → allIn (numbers w m p l i) (numbers w m p t j) ≡ allIn (numbers w m (p + w) l (nextPlace m l i)) (numbers w m (p + w) t (nextPlace m t j))
+        block-on p = octets-parts p ∙ rw (bits-within w p a b, ← h, eq-eqb _ _ x)
 
         module _ (some : i < length l) where
           -- the first ends there
           pub block-last : m ≤ a → {r : Paired} → r .fits ≡ true → r .from ≡ i + 1 → r .to ≡ behind m t j → BlockWithin w m l e t k r
           unfolding allIn
-          block-last o f n v = record {
-            told = λ p. f ∙ sym (block-on p ∙ rw (place-end m l i o, numbers-out w m (z .same p .0 + w) l (length l) (omega arith)));
-            from = λ y. n ∙ sym (z .from ∙ behind-stop m i l some o);
-            to = λ y. v ∙ sym (z .to);
-          }
+          block-last o f n v = z .rest _ (record {
+            told = λ p. f ∙ sym (block-on p ∙ rw (place-end m l i o, numbers-out w m (p + w) l (length l) (omega arith)));
+            from = λ y. n ∙ sym (behind-stop m i l some o);
+            to = λ y. v;
+          })
 
           module _ (less : a < m) where
-            -- only the second does
-            pub block-rest : j < length t → m ≤ b → {r : Paired} → BlockEmpty w m l (i + 1) (j + 1) r → BlockWithin w m l e t k r
-            block-rest there o y = record {
+            -- only the second does: from there on it has none
+            pub block-rest : j < length t → m ≤ b → {r : Paired} → BlockEmpty m l (i + 1) (j + 1) r → BlockWithin w m l e t k r
+            block-rest there o y = z .rest _ (record {
               told = λ p.
-                  let q = z .same p .0 + w in
-                  y .told q ∙ sym (block-on p ∙ rw (place-on m l i some less, place-end m t j o, numbers-out w m q t (length t) (omega arith)));
-              from = λ n. y .from n ∙ sym (z .from ∙ behind-go m i l some less);
-              to = λ n. y .to n ∙ sym (z .to ∙ behind-stop m j t there o);
-            }
+                  let q = p + w in
+                  y w h .told q
+                  ∙ sym (block-on p ∙ rw (place-on m l i some less, place-end m t j o, numbers-out w m q t (length t) (omega arith), numbers-out w m q [] (j + 1) (omega arith)));
+              from = λ n. y w h .from n ∙ sym (behind-go m i l some less);
+              to = λ n. y w h .to n ∙ behind-out m (j + 1) [] (omega arith) ∙ sym (behind-stop m j t there o);
+            })
 
             -- both go on
             pub block-turn : j < length t → b < m → BlockPairing w m l e t k (i + 1) (j + 1)
             block-turn there o = record {
-              same = λ p. (z .same p .0 + w, block-on p ∙ rw (place-on m l i some less, place-on m t j there o));
-              from = z .from ∙ behind-go m i l some less;
-              to = z .to ∙ behind-go m j t there o;
+              rest = λ r y. z .rest r (record {
+                told = λ p. y .told (p + w) ∙ sym (block-on p ∙ rw (place-on m l i some less, place-on m t j there o));
+                from = λ n. y .from n ∙ sym (behind-go m i l some less);
+                to = λ n. y .to n ∙ sym (behind-go m j t there o);
+              });
             }
 
             -- the second has no more
             pub block-alone : length t ≤ j → BlockPairing w m l e t k (i + 1) j
             block-alone o = record {
-              same = λ p.
-                  let q = z .same p .0 + w in
-                  (q, block-on p ∙ rw (place-on m l i some less, place-out m t j o, numbers-out w m q t (length t) (omega arith), numbers-out w m q t j o));
-              from = z .from ∙ behind-go m i l some less;
-              to = z .to;
+              rest = λ r y. z .rest r (record {
+                told = λ p.
+                    let q = p + w in
+                    y .told q ∙ sym (block-on p ∙ rw (place-on m l i some less, place-out m t j o, numbers-out w m q t (length t) (omega arith), numbers-out w m q t j o));
+                from = λ n. y .from n ∙ sym (behind-go m i l some less);
+                to = y .to;
+              });
             }
 
 -- ---- a block where the second has none: it is held beside no octets
@@ -121,13 +109,6 @@ module _ {w m : ℕ} {l : List ℕ} {e : ℕ} {t : List ℕ} {k : ℕ} where
 -- a place there is behind any block
 pub empty-behind : (m k : ℕ) → k ≡ behind m [] k
 empty-behind m k = sym (behind-out m k [] (omega arith))
-
-pub empty-whole : (w m : ℕ) (l : List ℕ) (e k : ℕ) {r : Paired} → BlockWithin w m l e [] k r → BlockEmpty w m l e k r
-empty-whole w m l e k x = record {
-  told = λ p. x .told p ∙ rw (numbers-out w m p [] k (omega arith));
-  from = x .from;
-  to = λ n. x .to n ∙ sym (empty-behind m k);
-}
 
 -- all of an octet is found there exactly if nothing is set in it
 under-none : (o k : ℕ) → bitAnd o (getD [] k 0) ≡ 0
@@ -185,13 +166,16 @@ module _ (l : List ℕ) (e : ℕ) (t : List ℕ) (k : ℕ) where
 
   module _ (h : ended l e ≡ false) {r : Paired} where
     -- or in the second: then nothing may be set in SPar(2)
-    pub group-alone : ended t k ≡ true → BlockEmpty 6 64 l e k r → GroupWithin l e t k r
+    pub group-alone : ended t k ≡ true → BlockEmpty 64 l e k r → GroupWithin l e t k r
     unfolding groupCodes groupBehind subCodes subsBehind isIn allIn
-    group-alone o x = record {
-      told = λ c. x .told 0 ∙ rw (h, o) (no-codes c (numbers 6 64 0 l e));
-      from = λ n. rw (h, none-within (numbers 6 64 0 l e) (sym (x .told 0) ∙ n)) (x .from n);
-      to = λ n. x .to n ∙ sym (group-past t k o);
-    }
+    group-alone o none =
+        let x = none 6 refl in
+        let told : r .fits ≡ allIn (numbers 6 64 0 l e) [] = rw (numbers-out 6 64 0 [] k (omega arith)) at (x .told 0) in
+        record {
+          told = λ c. told ∙ rw (h, o) (no-codes c (numbers 6 64 0 l e));
+          from = λ n. rw (h, none-within (numbers 6 64 0 l e) (sym told ∙ n)) (x .from n);
+          to = λ n. x .to n ∙ sym (empty-behind 64 k) ∙ sym (group-past t k o);
+        }
       where
         no-codes : (c : ℕ) (qs : List ℕ) → allIn qs [] ≡ allIn (subCodes c qs l (behind 64 l e)) []
         no-codes c [] = refl
@@ -208,7 +192,7 @@ module _ (l : List ℕ) (e : ℕ) (t : List ℕ) (k : ℕ) where
 pub rest-from : (b : ℕ) (l : List ℕ) (e : ℕ) → length l ≤ 64 → AllFrom (b + 449) (restCodes b l e)
 unfolding restCodes
 rest-from b l e h =
-    from-lower (b + 449) (b + 1 * 262144) _ (omega arith)
+    from-lower (b + 449) (b + 1 * ofS) _ (omega arith)
     (many-from (pars-stepped l h) b 1 (numbers 7 128 0 l e) (behind 128 l e) (from-ascending 1 0 _ (omega arith) (numbers-ascending 7 128 0 l e)))
 
 module _ (l t : List ℕ) (h : length l ≤ 64) (h′ : length t ≤ 64) (i j : ℕ) where

@@ -18,9 +18,8 @@ use Rattle.tree.specs.declared.Field.{Field}
 use Rattle.within.proofs.Apart.{from-ascending, in-front}
 use Rattle.tree.proofs.Ascending.{numbers-ascending}
 use Rattle.within.proofs.Beside.{rest-from}
-use Rattle.tree.proofs.Lowest.{in-bits}
+use Rattle.tree.proofs.Lowest.{in-bits, codes-long}
 use Rattle.within.proofs.Taking.{numbers-next}
-use Rattle.tree.proofs.Lowest.{codes-long}
 
 -- such a position is a code of the field exactly if its bit is set there
 first-in : (b : ℕ) (l : List ℕ) (at q : ℕ) → length l ≤ 64 → 0 < q → q < 8 → isIn (b + q) (fieldCodes b l at) ≡ odd (getD l at 0 / 2 ^ (q - 1))

@@ -1,29 +1,24 @@
 -- Positions with what they announce, held beside others one after the other: one law for those of SPar(2) and for those of SPar(1). The
 -- codes of a position lie below those of the next, so that a code can only be found at its own.
 -- Assumes nothing.
-use Prim.Native.Nat.{ℕ, _+_, _-_, _*_, _/_, _%_, _^_, _≤_, _<_}
+use Prim.Native.Nat.{ℕ, _+_, _-_, _*_, _≤_, _<_}
 use mathlib.Core.Bool.{Bool, true, false}
-use mathlib.Core.List.{List, [], _∷_, _++_, append-assoc, append-nil}
+use mathlib.Core.List.{List, [], _∷_, _++_}
 use mathlib.Core.Logic.{⊎-elim}
 use mathlib.Core.Path.{_≡_, refl, sym, _∙_}
 use native.Mathlib.Omega.{arith}
 use borrow.Author.Tests.{ltb-true, ltb-false, eqb-false}
-use lib.Count.{trailingZeros}
 use lib.Dec.{ltb, eqb}
-use lib.ListN.{length, getD}
-use lib.Pow.{shr-le}
-use Rattle.octets.specs.Bits.{odd}
+use lib.ListN.{length}
 use Rattle.octets.specs.Places.{pick}
-use Rattle.tree.specs.Block.{setBits, numbers, behind}
-use Rattle.tree.specs.Codes.{subCodes, subsBehind, groupCodes, groupBehind, parCodes, parsBehind}
+use Rattle.tree.specs.Block.{numbers, behind}
+use Rattle.tree.specs.Codes.{subCodes, subsBehind, groupCodes, groupBehind, parCodes, parsBehind, ofS}
 use Rattle.tree.specs.Order.{AllBelow, AllFrom}
-use Rattle.within.specs.Pairing.{nextPlace, Compared, BlockWithin, Level, subs, pars, Fits, oneOf, OneWithin, OctetWithin, AllWithin}
+use Rattle.within.specs.Pairing.{Compared, BlockWithin, Level, subs, pars, oneOf, OneWithin, AllWithin}
 use Rattle.tree.specs.Fields.{isIn, allIn}
 use Rattle.within.specs.declared.Paired.{Paired}
-use Rattle.within.proofs.Apart.{from-lower, from-append, from-ascending, in-none, in-append, in-behind, both, none-within, parts-within}
-use Rattle.within.proofs.Taking.{numbers-out, numbers-next, place-on, place-end, under-lowest, Under}
-use Rattle.tree.proofs.Ascending.{bits-between, numbers-ascending, sub-between, par-between}
-use Rattle.tree.proofs.Lowest.{Lowest, lowest, bits-none, bits-below}
+use Rattle.within.proofs.Apart.{from-lower, from-append, from-ascending, in-none, in-append, in-behind, both, parts-within}
+use Rattle.tree.proofs.Ascending.{sub-between, par-between}
 use Rattle.tree.proofs.Within.{in-cases, in-first, allIn-isIn, isIn-allIn}
 
 -- codes made of positions one after the other, each read at the place behind the one before; those of a position are from low on,
@@ -61,7 +56,7 @@ module _ (l : List ℕ) (h : length l ≤ 64) where
     first = λ y e. in-first y _;
   }
 
-  pub pars-stepped : Stepped (pars l) (λ c q. c + q * 262144) (parOne l) (λ e. groupBehind l (behind 64 l e))
+  pub pars-stepped : Stepped (pars l) (λ c q. c + q * ofS) (parOne l) (λ e. groupBehind l (behind 64 l e))
   unfolding parCodes parsBehind AllFrom AllBelow
   pars-stepped = record {
     none = λ c e. refl;
@@ -69,7 +64,7 @@ module _ (l : List ℕ) (h : length l ≤ 64) where
     stay = λ e. refl;
     pass = λ q qs e. refl;
     from = λ y e. (omega arith, from-ascending y y _ (omega arith) (par-between y l e h .0));
-    below = λ c q e. let n : c + (q + 1) * 262144 ≡ c + q * 262144 + 262144 = omega arith in rw n (omega arith, par-between (c + q * 262144) l e h .1);
+    below = λ c q e. let n : c + (q + 1) * ofS ≡ c + q * ofS + ofS = omega arith in rw n (omega arith, par-between (c + q * ofS) l e h .1);
     rise = λ c q r k. omega arith;
     apart = λ c q. omega arith;
     first = λ y e. in-first y _;
@@ -127,14 +122,6 @@ module _ {x : Level} {low : ℕ → ℕ → ℕ} {one : ℕ → ℕ → List ℕ
       go true i rest = refl
       go false i rest = rest (sym (behind-it (eqb-false r q i) (ltb r q) refl) ∙ rw (s .more c r qs e) at h)
 
--- where all was found the places are known
-compared-on : {f g : ℕ → List ℕ} {a b : ℕ} {r : Paired} → Compared f g a b r → (is : ℕ → ℕ → Bool) → pick (r .fits) (is a b) false ≡ pick (r .fits) (is (r .from) (r .to)) false
-compared-on {a = a} {b = b} {r = r} x is = go (r .fits) refl
-  where
-    go : (t : Bool) → r .fits ≡ t → pick t (is a b) false ≡ pick t (is (r .from) (r .to)) false
-    go true e = rw (x .from e, x .to e)
-    go false e = refl
-
 module _ {x y : Level} {low : ℕ → ℕ → ℕ} {one one′ : ℕ → ℕ → List ℕ} {next next′ : ℕ → ℕ} (s : Stepped x low one next) (u : Stepped y low one′ next′) (a : Paired) where
   -- what is asked of a position, and of what is behind it, is asked of each for itself
   one-parts : (c q : ℕ) (mine : Bool) (qs qs′ : List ℕ) → AllFrom (q + 1) qs → AllFrom (q + 1) qs′
@@ -145,27 +132,24 @@ module _ {x y : Level} {low : ℕ → ℕ → ℕ} {one one′ : ℕ → ℕ →
       rw (one-split s c mine q qs (a .from), u .more c q qs′ (a .to))
       (parts-within (low c (q + 1)) _ _ _ _ (one-below s c mine q (a .from)) (many-from s c (q + 1) qs _ f) (u .below c q (a .to)) (many-from u c (q + 1) qs′ _ g))
 
-  -- only the second has it set
-  pub one-passed : {mine : Bool} → mine ≡ false → {r : Paired} → r .fits ≡ true → r .from ≡ a .from → r .to ≡ next′ (a .to) → OneWithin x y mine a r
-  unfolding allIn
-  one-passed h k n m = record {
-    told = λ q. record {
-      same = λ c qs qs′ f g. rw (h, k, n, m) (one-parts c q false qs qs′ f g);
-      from = λ v qs. rw (h, n);
-      to = λ v qs. rw m (u .pass q qs (a .to));
+  -- what it announces was compared
+  one-within : {mine : Bool} {r : Paired} → Compared (λ c. pick mine (one (a .from) c) []) (one′ (a .to)) (pick mine (next (a .from)) (a .from)) (next′ (a .to)) r → OneWithin x y mine a r
+  one-within {mine = mine} z = record {
+    found = λ n q qs qs′ f g o v. record {
+      told = λ c. v .told c ∙ sym (one-parts c q mine qs qs′ f g ∙ rw (sym (z .told (low c q)), n, sym (z .from n), sym (z .to n)));
+      from = λ i. v .from i ∙ rw (z .from n) (sym (one-past s mine q qs (a .from)));
+      to = λ i. v .to i ∙ rw (z .to n) (sym (u .pass q qs′ (a .to)));
     };
+    lost = λ n q qs qs′ f g. record { told = λ c. n ∙ sym (one-parts c q mine qs qs′ f g ∙ rw (sym (z .told (low c q)), n)); from = λ i. cc; to = λ i. cc };
   }
 
-  -- both have
+  -- only the second has it set, or both have
+  pub one-passed : {mine : Bool} → mine ≡ false → {r : Paired} → r .fits ≡ true → r .from ≡ a .from → r .to ≡ next′ (a .to) → OneWithin x y mine a r
+  unfolding allIn
+  one-passed h k n m = rw h (one-within {mine = false} (record { told = λ c. k; from = λ v. n; to = λ v. m }))
+
   pub one-both : {mine : Bool} → mine ≡ true → {r : Paired} → Compared (one (a .from)) (one′ (a .to)) (next (a .from)) (next′ (a .to)) r → OneWithin x y mine a r
-  one-both h {r = r} z = record {
-    told = λ q. record {
-      same = λ c qs qs′ f g.
-          rw h (one-parts c q true qs qs′ f g ∙ rw (sym (z .told (low c q))) (compared-on z (λ i j. allIn (x .codes c qs i) (y .codes c qs′ j))));
-      from = λ v qs. rw (h, z .from v) (s .pass q qs (a .from));
-      to = λ v qs. rw (z .to v) (u .pass q qs (a .to));
-    };
-  }
+  one-both h z = rw h (one-within {mine = true} z)
 
 -- a position of the first alone has a code that the second has not
 module _ {x y : Level} {low : ℕ → ℕ → ℕ} {one one′ : ℕ → ℕ → List ℕ} {next next′ : ℕ → ℕ} (s : Stepped x low one next) (u : Stepped y low one′ next′) where
@@ -178,201 +162,5 @@ module _ {x y : Level} {low : ℕ → ℕ → ℕ} {one one′ : ℕ → ℕ →
           cc
       go false i = refl
 
-  pub octets-lost : (w m : ℕ) (l : List ℕ) (e : ℕ) (t : List ℕ) (k : ℕ) {r : Paired} → BlockWithin w m l e t k r → r .fits ≡ false → AllWithin x y w m l e t k r
-  octets-lost w m l e t k b n = record { told = λ c. n ∙ sym (codes-lost c _ _ _ _ (sym (b .told 0) ∙ n)); from = λ v. cc; to = λ v. cc }
-
--- ---- some positions, and more behind them
-
-module _ {x y : Level} where
-  -- none was looked at yet
-  fits-none : (h : ℕ) (mine theirs : List ℕ) (a : Paired) → a .fits ≡ true → Fits x y h mine theirs a mine theirs a
-  fits-none h mine theirs a e = record { same = λ c qs qs′ f g. rw e; from = λ v qs. refl; to = λ v qs. refl }
-
-  module _ {g h : ℕ} {mine theirs mine₁ theirs₁ : List ℕ} {a r : Paired} (z : Fits x y g mine theirs a mine₁ theirs₁ r) where
-    -- others are looked at next
-    fits-then : g ≤ h → r .fits ≡ true → {mine₂ theirs₂ : List ℕ} {r₁ : Paired} → Fits x y h mine₁ theirs₁ r mine₂ theirs₂ r₁ → Fits x y h mine theirs a mine₂ theirs₂ r₁
-    fits-then i e v = record {
-      same = λ c qs qs′ f k. z .same c qs qs′ (from-lower g h qs i f) (from-lower g h qs′ i k) ∙ rw e (v .same c qs qs′ f k);
-      from = λ t qs. z .from e qs ∙ v .from t qs;
-      to = λ t qs. z .to e qs ∙ v .to t qs;
-    }
-
-    -- one did not fit: the others do not matter
-    fits-lost : g ≤ h → r .fits ≡ false → Fits x y h mine theirs a [] [] r
-    fits-lost i e = record {
-      same = λ c qs qs′ f k. z .same c qs qs′ (from-lower g h qs i f) (from-lower g h qs′ i k) ∙ rw e;
-      from = λ t qs. cc;
-      to = λ t qs. cc;
-    }
-
-  -- they are only the first of more
-  fits-first : {h : ℕ} {mine theirs : List ℕ} {a r : Paired} → Fits x y h mine theirs a [] [] r → (rest rest′ : List ℕ) → AllFrom h rest → AllFrom h rest′
-      → Fits x y h (mine ++ rest) (theirs ++ rest′) a rest rest′ r
-  fits-first {h = h} {mine = mine} {theirs = theirs} z rest rest′ i j = record {
-    same = λ c qs qs′ f g.
-        rw (append-assoc mine rest qs, append-assoc theirs rest′ qs′)
-        (z .same c (rest ++ qs) (rest′ ++ qs′) (from-append h rest qs i f) (from-append h rest′ qs′ j g));
-    from = λ t qs. rw (append-assoc mine rest qs) (z .from t (rest ++ qs));
-    to = λ t qs. rw (append-assoc theirs rest′ qs) (z .to t (rest′ ++ qs));
-  }
-
--- ---- the positions of an octet
-
--- of the w positions of an octet of each all but the last, left, were looked at, and those are shifted down to a and b
-pub record BitsPairing (x y : Level) (w mine theirs : ℕ) (start pair : Paired) (a b : ℕ) : Type 0 where
-  pub left : ℕ
-  pub within : left ≤ w
-  pub small : b < 2 ^ left
-  pub fits : pair .fits ≡ true
-  pub told : (p : ℕ) → allIn (setBits w p mine) (setBits w p theirs) ≡ true →
-      let q = p + (w - left) in
-      (allIn (setBits left q a) (setBits left q b) ≡ true) × Fits x y (q + 1) (setBits w p mine) (setBits w p theirs) start (setBits left q a) (setBits left q b) pair
-
-module _ {x y : Level} {w mine theirs : ℕ} {start : Paired} where
-  -- none was looked at yet
-  pub bits-start : {m : ℕ} → m ≡ 2 ^ w → start .fits ≡ true → theirs % m < 2 ^ w → BitsPairing x y w mine theirs start start mine (theirs % m)
-  bits-start h e k = record {
-    left = w;
-    within = omega arith;
-    small = k;
-    fits = e;
-    told = λ p f.
-        let n : p + (w - w) ≡ p = omega arith in
-        rw (n, h, bits-below w p theirs) (f, fits-none (p + 1) (setBits w p mine) (setBits w p theirs) start e);
-  }
-
-  module _ {pair : Paired} {a b : ℕ} (z : BitsPairing x y w mine theirs start pair a b) where
-    -- all were
-    pub bits-end : b ≡ 0 → OctetWithin x y w mine theirs start pair
-    bits-end h = record {
-      told = λ p f.
-          let q = p + (w - z .left) in
-          let v = z .told p f in
-          let n : setBits (z .left) q b ≡ [] = rw (h, bits-none (z .left) q) in
-          let o : setBits (z .left) q a ≡ [] = none-within _ (rw n at (v .0)) in
-          fits-then (rw (n, o) at (v .1)) (omega (arith, z .within)) (z .fits) (fits-none (p + w + 1) [] [] pair (z .fits));
-    }
-
-    -- one is left: the lowest of the second, behind the zeros that are counted
-    module _ (narrow : w ≤ 7) (some : b ≡ 0 → ⊥) where
-      abbrev zeros : ℕ
-      zeros = trailingZeros 8 b
-
-      low : (p : ℕ) → Lowest (z .left) p b zeros
-      low p = lowest 8 (z .left) p b (omega (arith, z .within)) (omega arith) (z .small)
-
-      pub bits-few : zeros < 8
-      bits-few = omega (arith, low 0 .0, z .within)
-
-      pub bits-less : b / 2 ^ zeros / 2 < b
-      bits-less = omega (arith, shr-le b zeros)
-
-      -- it was looked at
-      module _ {pair₁ : Paired} (r : OneWithin x y (odd (a / 2 ^ zeros)) pair pair₁) where
-        abbrev rest : ℕ
-        rest = z .left - (zeros + 1)
-
-        bits-on : (p : ℕ) → allIn (setBits w p mine) (setBits w p theirs) ≡ true →
-            let q = p + (w - rest) in
-            (allIn (setBits rest q (a / 2 ^ zeros / 2)) (setBits rest q (b / 2 ^ zeros / 2)) ≡ true)
-            × Fits x y (q + 1) (setBits w p mine) (setBits w p theirs) start (setBits rest q (a / 2 ^ zeros / 2)) (setBits rest q (b / 2 ^ zeros / 2)) pair₁
-        bits-on p f =
-            let q = p + (w - z .left) in
-            let v = z .told p f in
-            let n : p + (w - rest) ≡ q + (zeros + 1) = omega (arith, low 0 .0, z .within) in
-            let u : Under (z .left) q a b zeros = under-lowest 8 (z .left) q a b (omega (arith, z .within)) (omega arith) (z .small) (v .0) in
-            let d = fits-first (r .told (q + (zeros + 1))) (setBits rest (q + (zeros + 1)) (a / 2 ^ zeros / 2)) (setBits rest (q + (zeros + 1)) (b / 2 ^ zeros / 2)) (above (q + (zeros + 1)) _) (above (q + (zeros + 1)) _) in
-            rw n (u .1, fits-then (rw (u .0, low q .1) at (v .1)) (omega arith) (z .fits) d)
-          where
-            above : (q d : ℕ) → AllFrom (q + 1) (setBits rest q d)
-            above q d = from-ascending (q + 1) q _ (omega arith) (bits-between rest q d .0)
-
-        -- it did not fit, or it did
-        pub bits-stop : pair₁ .fits ≡ false → OctetWithin x y w mine theirs start pair₁
-        bits-stop n = record { told = λ p f. fits-lost (bits-on p f .1) (omega (arith, low 0 .0, z .within)) n }
-
-        pub bits-turn : pair₁ .fits ≡ true → BitsPairing x y w mine theirs start pair₁ (a / 2 ^ zeros / 2) (b / 2 ^ zeros / 2)
-        bits-turn n = record { left = rest; within = omega (arith, z .within); small = low 0 .2; fits = n; told = bits-on }
-
--- ---- the positions of a block
-
--- of the two blocks, none of the first without the second, as many octets were looked at, and those at i and j are next
-pub record OctetsPairing (x y : Level) (w m : ℕ) (l : List ℕ) (e : ℕ) (t : List ℕ) (k : ℕ) (pair : Paired) (i j : ℕ) : Type 0 where
-  pub start : Paired
-  pub places : (start .from ≡ behind m l e) × (start .to ≡ behind m t k)
-  pub above : ℕ
-  pub fits : pair .fits ≡ true
-  pub set : allIn (numbers w m above l i) (numbers w m above t j) ≡ true
-  pub held : Fits x y (above + 1) (numbers w m 0 l e) (numbers w m 0 t k) start (numbers w m above l i) (numbers w m above t j) pair
-
-module _ {x y : Level} {low : ℕ → ℕ → ℕ} {one one′ : ℕ → ℕ → List ℕ} {next next′ : ℕ → ℕ} (s : Stepped x low one next) (u : Stepped y low one′ next′)
-    {w m : ℕ} {l : List ℕ} {e : ℕ} {t : List ℕ} {k : ℕ} where
-  -- none was looked at yet
-  pub octets-start : {pair : Paired} → BlockWithin w m l e t k pair → pair .fits ≡ true → OctetsPairing x y w m l e t k pair e k
-  octets-start {pair} b n = record {
-    start = pair;
-    places = (b .from n, b .to n);
-    above = 0;
-    fits = n;
-    set = sym (b .told 0) ∙ n;
-    held = fits-none 1 (numbers w m 0 l e) (numbers w m 0 t k) pair n;
-  }
-
-  module _ {pair : Paired} {i j : ℕ} (z : OctetsPairing x y w m l e t k pair i j) where
-    -- all were looked at, or enough
-    octets-all : {h : ℕ} {r : Paired} → Fits x y h (numbers w m 0 l e) (numbers w m 0 t k) (z .start) [] [] r → AllWithin x y w m l e t k r
-    unfolding allIn AllFrom
-    octets-all {r = r} v = record {
-      told = λ c.
-          sym (rw (append-nil (numbers w m 0 l e), append-nil (numbers w m 0 t k), z .places .0, z .places .1, s .none c (r .from)) at (v .same c [] [] tt tt) ∙ whole (r .fits));
-      from = λ n. sym (rw (append-nil (numbers w m 0 l e), z .places .0, s .stay (r .from)) at (v .from n []));
-      to = λ n. sym (rw (append-nil (numbers w m 0 t k), z .places .1, u .stay (r .to)) at (v .to n []));
-    }
-      where
-        whole : (b : Bool) → pick b true false ≡ b
-        whole true = refl
-        whole false = refl
-
-    -- the second has no more, and so the first has not
-    pub octets-end : length t ≤ j → AllWithin x y w m l e t k pair
-    octets-end h =
-        let n : numbers w m (z .above) t j ≡ [] = numbers-out w m (z .above) t j h in
-        let o : numbers w m (z .above) l i ≡ [] = none-within _ (rw n at (z .set)) in
-        octets-all (rw (n, o) at (z .held))
-
-    -- the octet at j was looked at
-    module _ {pair₁ : Paired} (r : OctetWithin x y w (getD l i 0) (getD t j 0) pair pair₁) where
-      abbrev q : ℕ
-      q = z .above + w
-
-      octets-on : (allIn (numbers w m q l (nextPlace m l i)) (numbers w m q t (nextPlace m t j)) ≡ true)
-          × Fits x y (q + 1) (numbers w m 0 l e) (numbers w m 0 t k) (z .start) (numbers w m q l (nextPlace m l i)) (numbers w m q t (nextPlace m t j)) pair₁
-      octets-on =
-          let p = z .above in
-          let f = both _ _ (sym (parts-within (p + w + 1) (setBits w p (getD l i 0)) _ (setBits w p (getD t j 0)) _
-          (bits-between w p (getD l i 0) .1) (behind-octet l (nextPlace m l i)) (bits-between w p (getD t j 0) .1) (behind-octet t (nextPlace m t j)))
-          ∙ rw (numbers-next w m p l i, numbers-next w m p t j) at (z .set)) in (
-            f .1,
-            fits-then (rw (numbers-next w m p l i, numbers-next w m p t j) at (z .held)) (omega arith) (z .fits)
-                (fits-first (r .told p (f .0)) _ _ (behind-octet l (nextPlace m l i)) (behind-octet t (nextPlace m t j))),
-          )
-        where
-          behind-octet : (o : List ℕ) (f : ℕ) → AllFrom (q + 1) (numbers w m q o f)
-          behind-octet o f = from-ascending (q + 1) q _ (omega arith) (numbers-ascending w m q o f)
-
-      -- it did not fit
-      pub octets-stop : pair₁ .fits ≡ false → AllWithin x y w m l e t k pair₁
-      octets-stop n = octets-all {h = q + 1} (fits-lost (octets-on .1) (omega arith) n)
-
-      -- it did, and is the last of its block, or is not
-      pub octets-last : pair₁ .fits ≡ true → m ≤ getD t j 0 → AllWithin x y w m l e t k pair₁
-      octets-last n h =
-          let v : numbers w m q t (nextPlace m t j) ≡ [] = rw (place-end m t j h) (numbers-out w m q t (length t) (omega arith)) in
-          let o : numbers w m q l (nextPlace m l i) ≡ [] = none-within _ (rw v at (octets-on .0)) in
-          octets-all (rw (v, o) at (octets-on .1))
-
-      pub octets-turn : pair₁ .fits ≡ true → j < length t → getD t j 0 < m → {i₁ : ℕ} → i₁ ≡ nextPlace m l i → OctetsPairing x y w m l e t k pair₁ i₁ (j + 1)
-      octets-turn n h less a =
-          let v : nextPlace m t j ≡ j + 1 = place-on m t j h less in
-          let c = rw (v, ← a) at octets-on in
-          record { start = z .start; places = z .places; above = q; fits = n; set = c .0; held = c .1 }
+  pub all-lost : (w m : ℕ) (l : List ℕ) (e : ℕ) (t : List ℕ) (k : ℕ) {r : Paired} → BlockWithin w m l e t k r → r .fits ≡ false → AllWithin x y w m l e t k r
+  all-lost w m l e t k b n = record { told = λ c. n ∙ sym (codes-lost c _ _ _ _ (sym (b .told 0) ∙ n)); from = λ v. cc; to = λ v. cc }

@@ -21,9 +21,9 @@ use Rattle.tree.specs.Block.{keep, setBits, blockNumbers, numbers}
 use Rattle.tree.specs.Order.{AllBelow, AllFrom}
 use Rattle.within.specs.Pairing.{nextPlace, oneOf}
 use Rattle.tree.specs.Fields.{isIn, allIn}
-use Rattle.within.proofs.Apart.{from-ascending, both, parts-within}
-use Rattle.tree.proofs.Ascending.{bits-between}
-use Rattle.tree.proofs.Lowest.{bits-none}
+use Rattle.within.proofs.Apart.{from-append, from-ascending, both, none-within, parts-within}
+use Rattle.tree.proofs.Ascending.{bits-between, numbers-ascending}
+use Rattle.tree.proofs.Lowest.{bits-none, bits-below}
 
 -- ---- one after the other
 
@@ -61,6 +61,10 @@ numbers-next w m p l i = go (ltb i (length l)) refl
         let h : length l ≤ i = ltb-false i (length l) e in
         numbers-out w m p l i h ∙ rw (List·getD-eq-default l 0 h, bits-none w p) (sym (numbers-out w m (p + w) l (length l) (omega arith)))
 
+-- the octet below its delimiter
+pub numbers-below : (w m p : ℕ) (l : List ℕ) (i : ℕ) → m ≡ 2 ^ w → numbers w m p l i ≡ setBits w p (getD l i 0 % m) ++ numbers w m (p + w) l (nextPlace m l i)
+numbers-below w m p l i h = numbers-next w m p l i ∙ rw (h, bits-below w p (getD l i 0))
+
 -- where the next octet is, and where none is
 pub place-on : (m : ℕ) (l : List ℕ) (i : ℕ) → i < length l → getD l i 0 < m → nextPlace m l i ≡ i + 1
 unfolding nextPlace
@@ -74,6 +78,14 @@ place-end m l i h = rw (le-ltb (getD l i 0) m h) (go (ltb i (length l)))
     go true = refl
     go false = refl
 
+pub place-after : (m : ℕ) (l : List ℕ) (i : ℕ) → i < length l → i < nextPlace m l i
+unfolding nextPlace
+place-after m l i h = rw (lt-ltb i (length l) h) (go (ltb (getD l i 0) m))
+  where
+    go : (t : Bool) → i < pick t (i + 1) (length l)
+    go true = omega arith
+    go false = h
+
 pub place-out : (m : ℕ) (l : List ℕ) (i : ℕ) → length l ≤ i → nextPlace m l i ≡ length l
 unfolding nextPlace
 place-out m l i h = rw (le-ltb i (length l) h)
@@ -85,6 +97,36 @@ octet-there w m l i p h = go (ltb i (length l)) refl
     go : (t : Bool) → ltb i (length l) ≡ t → i < length l
     go true e = ltb-true i (length l) e
     go false e = absurd (omega (arith, pow-pos w, List·getD-eq-default l 0 (ltb-false i (length l) e)))
+
+-- ---- what is left of a block
+
+-- the last bits of an octet, numbered from p, and the octets from a place on
+abbrev pub leftOf : (w m bits p d : ℕ) → List ℕ → ℕ → List ℕ
+leftOf w m bits p d l i = setBits bits p d ++ numbers w m (p + bits) l i
+
+-- all of it is above p
+pub left-from : (w m bits p d : ℕ) (l : List ℕ) (i : ℕ) → AllFrom (p + 1) (leftOf w m bits p d l i)
+left-from w m bits p d l i =
+    from-append (p + 1) _ _ (from-ascending (p + 1) p _ (omega arith) (bits-between bits p d .0)) (from-ascending (p + 1) (p + bits) _ (omega arith) (numbers-ascending w m (p + bits) l i))
+
+-- the bits and the octets are compared each for itself
+pub left-parts : (w m bits p a b : ℕ) (l t : List ℕ) (i j : ℕ) → allIn (leftOf w m bits p a l i) (leftOf w m bits p b t j)
+    ≡ pick (allIn (setBits bits p a) (setBits bits p b)) (allIn (numbers w m (p + bits) l i) (numbers w m (p + bits) t j)) false
+left-parts w m bits p a b l t i j =
+    parts-within (p + bits + 1) (setBits bits p a) _ (setBits bits p b) _ (bits-between bits p a .1) (octets-from l i) (bits-between bits p b .1) (octets-from t j)
+  where
+    octets-from : (o : List ℕ) (e : ℕ) → AllFrom (p + bits + 1) (numbers w m (p + bits) o e)
+    octets-from o e = from-ascending (p + bits + 1) (p + bits) _ (omega arith) (numbers-ascending w m (p + bits) o e)
+
+pub left-both : (w m bits p a b : ℕ) (l t : List ℕ) (i j : ℕ) → allIn (leftOf w m bits p a l i) (leftOf w m bits p b t j) ≡ true
+    → (allIn (setBits bits p a) (setBits bits p b) ≡ true) × (allIn (numbers w m (p + bits) l i) (numbers w m (p + bits) t j) ≡ true)
+left-both w m bits p a b l t i j h = both _ _ (sym (left-parts w m bits p a b l t i j) ∙ h)
+
+-- no bit is left of the second, and so of the first
+pub left-octets : (w m bits p a : ℕ) {b : ℕ} (l t : List ℕ) (i j : ℕ) → b ≡ 0 → allIn (leftOf w m bits p a l i) (leftOf w m bits p b t j) ≡ true
+    → (leftOf w m bits p a l i ≡ numbers w m (p + bits) l i) × (leftOf w m bits p b t j ≡ numbers w m (p + bits) t j)
+left-octets w m bits p a {b = b} l t i j nil h =
+    (rw (none-within (setBits bits p a) (rw (nil, bits-none bits p) at (left-both w m bits p a b l t i j h .0))), rw (nil, bits-none bits p))
 
 -- ---- one bit
 

@@ -1,18 +1,21 @@
 -- Inner: one field held beside another, block by block. l and t are the octets of the two; a pair has
 -- the places behind what was looked at in each, and whether all of the first was found in the second.
 -- Assumes nothing.
-use Prim.Native.Nat.{ℕ, _+_}
+use Prim.Native.Nat.{ℕ, _+_, _/_, _%_, _^_}
 use mathlib.Core.Bool.{Bool, true, false}
 use mathlib.Core.List.{List, [], _∷_, _++_}
 use mathlib.Core.Path.{_≡_}
+use lib.Count.{trailingZeros}
 use lib.Dec.{ltb}
 use lib.ListN.{length, getD}
+use Rattle.octets.specs.Bits.{odd}
 use Rattle.octets.specs.Places.{pick}
-use Rattle.tree.specs.Block.{setBits, numbers, behind}
+use Rattle.tree.specs.Block.{numbers, behind}
 use Rattle.tree.specs.Codes.{subCodes, subsBehind, groupCodes, groupBehind, parCodes, parsBehind, fieldCodes}
 use Rattle.tree.specs.Order.{AllFrom}
 use Rattle.tree.specs.Fields.{allIn}
 use Rattle.within.specs.declared.Paired.{Paired}
+use Rattle.within.specs.declared.Walk.{Walk}
 
 -- the place of a block's next octet; the end of the octets where the block ends
 unfoldable pub nextPlace : ℕ → List ℕ → ℕ → ℕ
@@ -24,12 +27,12 @@ pub record Compared (mine theirs : ℕ → List ℕ) (a b : ℕ) (r : Paired) : 
   pub from : r .fits ≡ true → r .from ≡ a
   pub to : r .fits ≡ true → r .to ≡ b
 
--- the positions of a block; the same where the second has none
+-- the positions of a block; the same where the second has none, and stays where it is
 abbrev pub BlockWithin : ℕ → ℕ → List ℕ → ℕ → List ℕ → ℕ → Paired → Type 0
 BlockWithin w m l e t k = Compared (λ p. numbers w m p l e) (λ p. numbers w m p t k) (behind m l e) (behind m t k)
 
-abbrev pub BlockEmpty : ℕ → ℕ → List ℕ → ℕ → ℕ → Paired → Type 0
-BlockEmpty w m l e k = Compared (λ p. numbers w m p l e) (λ p. []) (behind m l e) k
+abbrev pub BlockEmpty : ℕ → List ℕ → ℕ → ℕ → Paired → Type 0
+BlockEmpty m l e k r = (w : ℕ) → m ≡ 2 ^ w → BlockWithin w m l e [] k r
 
 -- what stands in a Par(2) block behind its NPar(2)
 abbrev pub GroupWithin : List ℕ → ℕ → List ℕ → ℕ → Paired → Type 0
@@ -47,31 +50,35 @@ subs l = record { codes = λ c ts e. subCodes c ts l e; past = λ ts e. subsBehi
 abbrev pub pars : List ℕ → Level
 pars l = record { codes = λ b ss e. parCodes b ss l e; past = λ ss e. parsBehind (length ss) l e }
 
--- some positions were looked at: what was asked of all, and of more behind them, from h on, is asked of those that are left
-pub record Fits (x y : Level) (h : ℕ) (mine theirs : List ℕ) (a : Paired) (mine′ theirs′ : List ℕ) (r : Paired) : Type 0 where
-  pub same : (c : ℕ) (more more′ : List ℕ) → AllFrom h more → AllFrom h more′
-      → allIn (x .codes c (mine ++ more) (a .from)) (y .codes c (theirs ++ more′) (a .to))
-      ≡ pick (r .fits) (allIn (x .codes c (mine′ ++ more) (r .from)) (y .codes c (theirs′ ++ more′) (r .to))) false
-  pub from : r .fits ≡ true → (more : List ℕ) → x .past (mine ++ more) (a .from) ≡ x .past (mine′ ++ more) (r .from)
-  pub to : r .fits ≡ true → (more : List ℕ) → y .past (theirs ++ more) (a .to) ≡ y .past (theirs′ ++ more) (r .to)
+-- positions read from a place on in each
+abbrev pub SomeWithin : Level → Level → List ℕ → ℕ → List ℕ → ℕ → Paired → Type 0
+SomeWithin x y mine i theirs j = Compared (λ c. x .codes c mine i) (λ c. y .codes c theirs j) (x .past mine i) (y .past theirs j)
+
+-- those of a block
+abbrev pub AllWithin : Level → Level → ℕ → ℕ → List ℕ → ℕ → List ℕ → ℕ → Paired → Type 0
+AllWithin x y w m l e t k = SomeWithin x y (numbers w m 0 l e) (behind m l e) (numbers w m 0 t k) (behind m t k)
 
 -- position q, where it is set
 abbrev pub oneOf : Bool → ℕ → List ℕ
 oneOf set q = pick set (q ∷ []) []
 
--- one position that is set in the second; those of an octet of each, where none is set in the first alone; those of a block
+-- one position that is set in the second was looked at: what is asked of it and of others above is asked of those, unless it was not found
 pub record OneWithin (x y : Level) (mine : Bool) (a r : Paired) : Type 0 where
-  pub told : (q : ℕ) → Fits x y (q + 1) (oneOf mine q) (q ∷ []) a [] [] r
-
-pub record OctetWithin (x y : Level) (w mine theirs : ℕ) (a r : Paired) : Type 0 where
-  pub told : (p : ℕ) → allIn (setBits w p mine) (setBits w p theirs) ≡ true
-      → Fits x y (p + w + 1) (setBits w p mine) (setBits w p theirs) a [] [] r
-
-abbrev pub AllWithin : Level → Level → ℕ → ℕ → List ℕ → ℕ → List ℕ → ℕ → Paired → Type 0
-AllWithin x y w m l e t k =
-    Compared (λ c. x .codes c (numbers w m 0 l e) (behind m l e)) (λ c. y .codes c (numbers w m 0 t k) (behind m t k))
-    (x .past (numbers w m 0 l e) (behind m l e)) (y .past (numbers w m 0 t k) (behind m t k))
+  pub found : r .fits ≡ true → (q : ℕ) (qs qs′ : List ℕ) → AllFrom (q + 1) qs → AllFrom (q + 1) qs′ → (o : Paired)
+      → SomeWithin x y qs (r .from) qs′ (r .to) o → SomeWithin x y (oneOf mine q ++ qs) (a .from) (q ∷ qs′) (a .to) o
+  pub lost : r .fits ≡ false → (q : ℕ) (qs qs′ : List ℕ) → AllFrom (q + 1) qs → AllFrom (q + 1) qs′ → SomeWithin x y (oneOf mine q ++ qs) (a .from) (q ∷ qs′) (a .to) r
 
 -- a field
 pub record FieldWithin (l : List ℕ) (i : ℕ) (t : List ℕ) (j : ℕ) (r : Bool) : Type 0 where
   pub told : (b : ℕ) → r ≡ allIn (fieldCodes b l i) (fieldCodes b t j)
+
+-- ---- a walk over the positions of two blocks: its next octets, and the next position of those that it has
+
+abbrev pub nextOctets : ℕ → List ℕ → List ℕ → Walk → Walk
+nextOctets m l t x = record { i = nextPlace m l (x .i); j = nextPlace m t (x .j); mine = getD l (x .i) 0; theirs = getD t (x .j) 0 % m; set = false }
+
+abbrev pub nextBit : Walk → Walk
+nextBit x =
+    let zeros = trailingZeros 8 (x .theirs) in
+    let mine = x .mine / 2 ^ zeros in
+    record { i = x .i; j = x .j; mine = mine / 2; theirs = x .theirs / 2 ^ zeros / 2; set = odd mine }

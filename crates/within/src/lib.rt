@@ -4,26 +4,15 @@ ghost use Rattle.tree.specs.Block.{behind};
 ghost use lib.ListN.{length, getD};
 ghost use mathlib.Core.Bool.{true};
 ghost use mathlib.Core.Path.{_≡_};
-ghost use Rattle.within.specs.Pairing.{nextPlace, BlockWithin, BlockEmpty, GroupWithin, subs, pars, OneWithin, OctetWithin, AllWithin, FieldWithin};
+ghost use Rattle.within.specs.Pairing.{nextPlace, BlockWithin, BlockEmpty, GroupWithin, subs, pars, OneWithin, AllWithin, FieldWithin, nextOctets, nextBit};
 ghost use Rattle.within.specs.Contracts.{TellsFirst, TellsWithin};
+use octets::octet_or_zero;
 use tree::Field;
+use tree::MOST_OCTETS;
 use tree::bit8;
 use tree::block_behind;
 use tree::group_behind;
 use tree::top_behind;
-
-// The octets of the longest message.
-const MOST_OCTETS: usize = 64;
-
-// The octet at a place, 0 behind the end.
-fn octet_or_zero(s: &[u8], i: usize) -> u8
-    ensures { λ r. ⌜ r ≡ getD (now (s .entry)) i 0 ⌝ }
-{
-    if i < s.len() {
-        return s[i];
-    }
-    0
-}
 
 // Whether the field at a place has a position of the first octet of its NPar(1), from 1 to 7.
 pub fn has_first(s: &[u8], at: usize, field: Field, q: u32) -> bool
@@ -78,9 +67,9 @@ fn passed_over(t: &[u8], k: usize, w: u32, from: usize) -> Paired
 }
 
 // Whether no position is set in the block at a place, where the other octets have none; the others stay where they are.
-fn block_empty(s: &[u8], e: usize, to: usize, w: u32, m: u8) -> Paired
-    requires { ⌜ (m ≡ 2 ^ w) × (w ≤ 7) ⌝ }
-    ensures { λ r. ⌜ BlockEmpty w m (now (s .entry)) e to r ⌝ }
+fn block_empty(s: &[u8], e: usize, to: usize, m: u8) -> Paired
+    requires { ⌜ 0 < m ⌝ }
+    ensures { λ r. ⌜ BlockEmpty m (now (s .entry)) e to r ⌝ }
 {
     let mut i = e;
     while i < s.len() {
@@ -136,16 +125,59 @@ fn block_within(s: &[u8], e: usize, t: &[u8], k: usize, w: u32, m: u8) -> Paired
                     to: j,
                 };
             }
-            return block_empty(s, i, j, w, m);
+            return block_empty(s, i, j, m);
         }
         if m <= mine {
-            return passed_over(t, j, w, i);
+            break;
         }
         if j < t.len() {
             j += 1;
         }
     }
     passed_over(t, j, w, i)
+}
+
+// A walk over the positions that are set in a block of the other octets, with the same block of the first: the places of the octets
+// that come next, what is left of those before, and whether the position that was found last is set in the first too.
+pub struct Walk {
+    pub i: usize,
+    pub j: usize,
+    pub mine: u8,
+    pub theirs: u8,
+    pub set: bool,
+}
+
+// The walk at the next octets, where nothing is left of those before.
+fn next_octets(s: &[u8], t: &[u8], walk: Walk, m: u8) -> Walk
+    requires { ⌜ 0 < m ⌝ }
+    ensures { λ r. ⌜ r ≡ nextOctets m (now (s .entry)) (now (t .entry)) walk ⌝ }
+{
+    let i = walk.i;
+    let j = walk.j;
+    Walk {
+        i: next_place(s, i, m),
+        j: next_place(t, j, m),
+        mine: octet_or_zero(s, i),
+        theirs: octet_or_zero(t, j) % m,
+        set: false,
+    }
+}
+
+// The lowest position that is left.
+fn next_bit(walk: Walk) -> Walk
+    requires { ⌜ 0 < walk .theirs ⌝ }
+    ensures { λ r. ⌜ r ≡ nextBit walk ⌝ }
+{
+    let zeros = u8::trailing_zeros(walk.theirs);
+    let mine = walk.mine >> zeros;
+    let theirs = walk.theirs >> zeros;
+    Walk {
+        i: walk.i,
+        j: walk.j,
+        mine: mine >> 1,
+        theirs: theirs >> 1,
+        set: mine % 2 == 1,
+    }
 }
 
 // The NPar(3) blocks of one SPar(2) position that is set in the other octets: set in the first too, or not.
@@ -161,49 +193,30 @@ fn sub_within(s: &[u8], t: &[u8], mine: bool, pair: Paired) -> Paired
     passed_over(t, to, 6, from)
 }
 
-// The same of the SPar(2) positions of an octet of each: only those set in the other, since none is set in the first alone.
-fn subs_within_of(s: &[u8], t: &[u8], mine: u8, theirs: u8, start: Paired) -> Paired
-    requires { ⌜ (length (now s) ≤ 64) × (length (now t) ≤ 64) × (start .fits ≡ true) ⌝ }
-    ensures { λ r. ⌜ OctetWithin (subs (now (s .entry))) (subs (now (t .entry))) 6 mine theirs start r ⌝ }
-{
-    let mut pair = start;
-    let mut a = mine;
-    let mut b = theirs % 64;
-    while b != 0 {
-        let passed = u8::trailing_zeros(b);
-        a = a >> passed;
-        b = b >> passed >> 1;
-        pair = sub_within(s, t, a % 2 == 1, pair);
-        if !pair.fits {
-            return pair;
-        }
-        a = a >> 1;
-    }
-    pair
-}
-
 // Whether the SPar(2) block at a place lies within that of other octets, with the NPar(3) blocks behind it.
 fn subs_within(s: &[u8], e: usize, t: &[u8], k: usize) -> Paired
     requires { ⌜ (length (now s) ≤ 64) × (length (now t) ≤ 64) ⌝ }
     ensures { λ r. ⌜ AllWithin (subs (now (s .entry))) (subs (now (t .entry))) 6 64 (now (s .entry)) e (now (t .entry)) k r ⌝ }
 {
     let mut pair = block_within(s, e, t, k, 6, 64);
-    if !pair.fits {
-        return pair;
-    }
-    let mut i = e;
-    let mut j = k;
-    while j < t.len() {
-        let o = t[j];
-        pair = subs_within_of(s, t, octet_or_zero(s, i), o, pair);
-        if !pair.fits {
-            return pair;
+    let mut walk = Walk {
+        i: e,
+        j: k,
+        mine: 0,
+        theirs: 0,
+        set: false,
+    };
+    while pair.fits {
+        if walk.theirs == 0 {
+            if t.len() <= walk.j {
+                return pair;
+            }
+            walk = next_octets(s, t, walk, 64);
+        } else {
+            let next = next_bit(walk);
+            pair = sub_within(s, t, next.set, pair);
+            walk = next;
         }
-        if 64 <= o {
-            return pair;
-        }
-        i = next_place(s, i, 64);
-        j += 1;
     }
     pair
 }
@@ -221,7 +234,7 @@ fn group_within(s: &[u8], e: usize, t: &[u8], k: usize) -> Paired
                 to: k,
             };
         }
-        return block_empty(s, e, k, 6, 64);
+        return block_empty(s, e, k, 64);
     }
     if bit8(s, e) {
         return Paired {
@@ -254,49 +267,30 @@ fn par_within(s: &[u8], t: &[u8], mine: bool, pair: Paired) -> Paired
     group_within(s, middle.from, t, middle.to)
 }
 
-// The same of the SPar(1) positions of an octet of each: only those set in the other, since none is set in the first alone.
-fn pars_within_of(s: &[u8], t: &[u8], mine: u8, theirs: u8, start: Paired) -> Paired
-    requires { ⌜ (length (now s) ≤ 64) × (length (now t) ≤ 64) × (start .fits ≡ true) ⌝ }
-    ensures { λ r. ⌜ OctetWithin (pars (now (s .entry))) (pars (now (t .entry))) 7 mine theirs start r ⌝ }
-{
-    let mut pair = start;
-    let mut a = mine;
-    let mut b = theirs % 128;
-    while b != 0 {
-        let passed = u8::trailing_zeros(b);
-        a = a >> passed;
-        b = b >> passed >> 1;
-        pair = par_within(s, t, a % 2 == 1, pair);
-        if !pair.fits {
-            return pair;
-        }
-        a = a >> 1;
-    }
-    pair
-}
-
 // Whether the SPar(1) block at a place lies within that of other octets, with the Par(2) blocks behind it.
 fn pars_within(s: &[u8], e: usize, t: &[u8], k: usize) -> Paired
     requires { ⌜ (length (now s) ≤ 64) × (length (now t) ≤ 64) ⌝ }
     ensures { λ r. ⌜ AllWithin (pars (now (s .entry))) (pars (now (t .entry))) 7 128 (now (s .entry)) e (now (t .entry)) k r ⌝ }
 {
     let mut pair = block_within(s, e, t, k, 7, 128);
-    if !pair.fits {
-        return pair;
-    }
-    let mut i = e;
-    let mut j = k;
-    while j < t.len() {
-        let o = t[j];
-        pair = pars_within_of(s, t, octet_or_zero(s, i), o, pair);
-        if !pair.fits {
-            return pair;
+    let mut walk = Walk {
+        i: e,
+        j: k,
+        mine: 0,
+        theirs: 0,
+        set: false,
+    };
+    while pair.fits {
+        if walk.theirs == 0 {
+            if t.len() <= walk.j {
+                return pair;
+            }
+            walk = next_octets(s, t, walk, 128);
+        } else {
+            let next = next_bit(walk);
+            pair = par_within(s, t, next.set, pair);
+            walk = next;
         }
-        if 128 <= o {
-            return pair;
-        }
-        i = next_place(s, i, 128);
-        j += 1;
     }
     pair
 }

@@ -1,12 +1,4 @@
-pub mod Trees
-pub mod Growing
-pub mod Meanings
-pub mod Blocks
-pub mod Reading
-pub mod Minimals
-pub mod Announcing
-pub mod RoundTrip
+pub mod Heads
 pub mod Putting
 pub mod Parents
 pub mod WriterUnique
-pub mod Vectors

@@ -7,18 +7,18 @@ use mathlib.Core.List.{List, [], _∷_}
 use mathlib.Core.Logic.{_⊎_, inl, inr, ⊎-elim}
 use native.Mathlib.Nat.{suc-mul, zero-mod, mod-lt, mod-add-div', mul-mod-left, mul-le-mul-right, lt-of-mul-lt-mul-right}
 use native.Mathlib.Omega.{arith}
-use borrow.Author.Tests.{ltb-true, ltb-false, lt-ltb, le-ltb, eqb-true, eqb-false, eq-eqb, ne-eqb}
+use borrow.Author.Tests.{ltb-true, lt-ltb, le-ltb, eqb-false, eq-eqb, ne-eqb}
 use lib.Dec.{ltb, eqb}
 use lib.ListN.{length, getD, drop}
 use Rattle.octets.specs.Places.{pick}
-use Rattle.tree.specs.Codes.{fieldBase}
+use Rattle.tree.specs.Codes.{nOf, ofF, ofS}
 use Rattle.tree.specs.Fields.{isIn}
 use Rattle.message.specs.Kinds.{known}
-use Rattle.writer.specs.Meaning.{fOf, sOf, tOf, nOf, shaped, allShaped, ascendingFrom, ascending, hasParent, allParented}
-use Rattle.writer.specs.Written.{from}
-use Rattle.writer.specs.Writer.{isEmpty}
-use Rattle.writer.specs.Inner.{standsUnder, Between}
-use Rattle.writer.proofs.Putting.{drop-next, both-hold, between-nil, between-cons, between-rest}
+use Rattle.meaning.specs.Meaning.{ascendingFrom, ascending, hasParent, allParented}
+use Rattle.meaning.specs.Writing.{isEmpty}
+use Rattle.writer.specs.Inner.{standsUnder}
+use Rattle.meaning.proofs.Growing.{in-cons, in-first, in-rest}
+use Rattle.octets.proofs.Laws.{drop-next, both-true}
 
 -- a list is empty if its length is 0
 pub empty-test : (l : List ℕ) → isEmpty l ≡ eqb (length l) 0
@@ -48,82 +48,9 @@ pub ascending-stops : (l : List ℕ) (x i : ℕ) → i < length l → getD l i 0
 unfolding ascendingFrom
 ascending-stops l x i h k = rw (drop-next l i h, le-ltb _ _ k)
 
--- ---- shapes
-
--- what the shape of a code says of its field: it is 1 or 2, and the code is above it
-pub record Fielded (c : ℕ) : Type 0 where
-  pub low : fieldBase 1 < c
-  pub high : c < fieldBase 3
-  pub some : c % 134217728 ≡ 0 → ⊥
-
-pub shaped-field : (c : ℕ) → shaped c ≡ true → Fielded c
-unfolding shaped
-shaped-field c e = go (ltb (fOf c) 1) (ltb 2 (fOf c)) (eqb (c % 134217728) 0) refl refl refl e
-  where
-    go : (x y z : Bool) → ltb (fOf c) 1 ≡ x → ltb 2 (fOf c) ≡ y → eqb (c % 134217728) 0 ≡ z
-        → pick x false (pick y false (pick z false (pick (eqb (sOf c) 0) (eqb (tOf c) 0) true))) ≡ true → Fielded c
-    go true y z p q r u = let v : _≡_ {A = ℕ} 0 1 = cc in absurd (omega arith)
-    go false true z p q r u = let v : _≡_ {A = ℕ} 0 1 = cc in absurd (omega arith)
-    go false false true p q r u = let v : _≡_ {A = ℕ} 0 1 = cc in absurd (omega arith)
-    go false false false p q r u =
-        let low = ltb-false (fOf c) 1 p in
-        let high = ltb-false 2 (fOf c) q in
-        let some = eqb-false (c % 134217728) 0 r in
-        record { low = omega arith; high = omega arith; some = some }
-
--- such codes, ascending from b, lie between b and the end of field 2
-shaped-between : (b : ℕ) (l : List ℕ) → allShaped l ≡ true → ascendingFrom b l ≡ true → Between b (fieldBase 3) l
-unfolding allShaped ascendingFrom
-shaped-between b [] s u = between-nil b (fieldBase 3)
-shaped-between b (c ∷ l) s u =
-    let s′ = both-hold (shaped c) (allShaped l) s in
-    let u′ = both-hold (ltb b c) (ascendingFrom c l) u in
-    between-cons (ltb-true b c (u′ .0)) (shaped-field c (s′ .0) .high) (shaped-between c l (s′ .1) (u′ .1))
-
--- so all lie in the two fields
-pub fields-between : (l : List ℕ) → allShaped l ≡ true → ascending l ≡ true → Between (fieldBase 1) (fieldBase 3) l
-unfolding allShaped ascendingFrom
-fields-between [] s u = between-nil (fieldBase 1) (fieldBase 3)
-fields-between (c ∷ l) s u =
-    let f = shaped-field c (both-hold (shaped c) (allShaped l) s .0) in
-    shaped-between (fieldBase 1) (c ∷ l) s (rw (lt-ltb (fieldBase 1) c (f .low)) u)
-
--- and those that are not of field 1 are above 2.0.0.0
-pub second-between : {b : ℕ} (l : List ℕ) → allShaped l ≡ true → Between b (fieldBase 3) l → Between (fieldBase 2) (fieldBase 3) (from (fieldBase 2) l)
-unfolding allShaped from
-second-between [] s x = between-nil (fieldBase 2) (fieldBase 3)
-second-between (c ∷ l) s x =
-    let s′ = both-hold (shaped c) (allShaped l) s in
-    go (ltb c (fieldBase 2)) refl (shaped-field c (s′ .0)) (second-between l (s′ .1) (between-rest x))
-  where
-    go : (t : Bool) → ltb c (fieldBase 2) ≡ t → Fielded c → Between (fieldBase 2) (fieldBase 3) (from (fieldBase 2) l) → Between (fieldBase 2) (fieldBase 3) (pick t (from (fieldBase 2) l) (c ∷ l))
-    go true e f y = y
-    go false e f y = between-cons (omega (arith, f .some, ltb-false c (fieldBase 2) e)) (f .high) (between-rest x)
-
 -- ---- what is in a list
 
--- a number is in a list if it is the first, or among the others
-in-cases : (x c : ℕ) (l : List ℕ) → isIn x (c ∷ l) ≡ true → (c ≡ x) ⊎ (isIn x l ≡ true)
-unfolding isIn
-in-cases x c l h = go (eqb c x) refl h
-  where
-    go : (t : Bool) → eqb c x ≡ t → pick t true (isIn x l) ≡ true → (c ≡ x) ⊎ (isIn x l ≡ true)
-    go true e u = inl (eqb-true c x e)
-    go false e u = inr u
-
-in-first : (c : ℕ) (l : List ℕ) → isIn c (c ∷ l) ≡ true
-unfolding isIn
-in-first c l = rw (eq-eqb c c refl)
-
-in-others : (x c : ℕ) (l : List ℕ) → isIn x l ≡ true → isIn x (c ∷ l) ≡ true
-unfolding isIn
-in-others x c l h = go (eqb c x)
-  where
-    go : (t : Bool) → pick t true (isIn x l) ≡ true
-    go true = refl
-    go false = h
-
--- and it is at most the highest of them
+-- a number in a list is at most the highest of them
 abbrev highest : List ℕ → ℕ
 highest [] = 0
 highest (c ∷ l) = max c (highest l)
@@ -131,7 +58,7 @@ highest (c ∷ l) = max c (highest l)
 in-most : (x : ℕ) (l : List ℕ) → isIn x l ≡ true → x ≤ highest l
 unfolding isIn
 in-most x [] h = let v : _≡_ {A = ℕ} 0 1 = cc in absurd (omega arith)
-in-most x (c ∷ l) h = ⊎-elim (λ e. omega arith) (λ i. omega (arith, in-most x l i)) (in-cases x c l h)
+in-most x (c ∷ l) h = ⊎-elim (λ e. omega arith) (λ i. omega (arith, in-most x l i)) (in-cons x c l h)
 
 -- a type fits its four bits
 pub known-most : (kind : ℕ) → known kind ≡ true → kind ≤ 11
@@ -142,9 +69,9 @@ in-above : (b x : ℕ) (l : List ℕ) → ascendingFrom b l ≡ true → isIn x 
 unfolding ascendingFrom isIn
 in-above b x [] u h = let v : _≡_ {A = ℕ} 0 1 = cc in absurd (omega arith)
 in-above b x (c ∷ l) u h =
-    let u′ = both-hold (ltb b c) (ascendingFrom c l) u in
+    let u′ = both-true (ltb b c) (ascendingFrom c l) u in
     let k = ltb-true b c (u′ .0) in
-    ⊎-elim (λ e. omega arith) (λ i. omega (arith, in-above c x l (u′ .1) i)) (in-cases x c l h)
+    ⊎-elim (λ e. omega arith) (λ i. omega (arith, in-above c x l (u′ .1) i)) (in-cons x c l h)
 
 -- so a number is looked for only up to the first that is not below it
 pub met-first : (x c : ℕ) (l : List ℕ) → x ≤ c → ascendingFrom c l ≡ true → eqb c x ≡ isIn x (c ∷ l)
@@ -200,18 +127,18 @@ module _ {m : ℕ} {all rest : List ℕ} {c g : ℕ} (x : Latest m all (c ∷ re
   latest-take z e = rw e (record {
     whole = z;
     there = λ h. x .inside c (in-first c rest);
-    high = λ y i w. ⊎-elim (λ k. inl (omega (arith, x .low c (in-first c rest)))) (λ k. ⊎-elim (λ q. inl (omega arith)) (λ q. inr q) (in-cases y c rest k)) (x .high y i w);
+    high = λ y i w. ⊎-elim (λ k. inl (omega (arith, x .low c (in-first c rest)))) (λ k. ⊎-elim (λ q. inl (omega arith)) (λ q. inr q) (in-cons y c rest k)) (x .high y i w);
     low = λ y i. omega (arith, in-above c y rest up i);
-    inside = λ y i. x .inside y (in-others y c rest i);
+    inside = λ y i. x .inside y (in-rest y c rest i);
   })
 
   pub latest-pass : {h : ℕ} → (c % m ≡ 0 → ⊥) → h ≡ g → Latest m all rest h
   latest-pass z e = rw e (record {
     whole = x .whole;
     there = x .there;
-    high = λ y i w. ⊎-elim (λ k. inl k) (λ k. ⊎-elim (λ q. absurd (z (ap (λ (n : ℕ). n % m) q ∙ w))) (λ q. inr q) (in-cases y c rest k)) (x .high y i w);
-    low = λ y i. x .low y (in-others y c rest i);
-    inside = λ y i. x .inside y (in-others y c rest i);
+    high = λ y i w. ⊎-elim (λ k. inl k) (λ k. ⊎-elim (λ q. absurd (z (ap (λ (n : ℕ). n % m) q ∙ w))) (λ q. inr q) (in-cons y c rest k)) (x .high y i w);
+    low = λ y i. x .low y (in-rest y c rest i);
+    inside = λ y i. x .inside y (in-rest y c rest i);
   })
 
   -- the floor of a code, if it is another number, is in the list if it is the last multiple before the code
@@ -221,21 +148,21 @@ module _ {m : ℕ} {all rest : List ℕ} {c g : ℕ} (x : Latest m all (c ∷ re
       go : (t : Bool) → isIn p all ≡ t → eqb p g ≡ t
       go true i =
           let above : g ≤ p = f .most g (x .whole) (x .low c (in-first c rest)) in
-          eq-eqb p g (⊎-elim (λ k. omega arith) (λ k. ⊎-elim (λ q. absurd (other (sym q))) (λ q. absurd (omega (arith, f .least, in-above c p rest up q))) (in-cases p c rest k)) (x .high p i (f .whole)))
+          eq-eqb p g (⊎-elim (λ k. omega arith) (λ k. ⊎-elim (λ q. absurd (other (sym q))) (λ q. absurd (omega (arith, f .least, in-above c p rest up q))) (in-cons p c rest k)) (x .high p i (f .whole)))
       go false i = ne-eqb p g (λ e. let there : isIn p all ≡ true = rw e (x .there (omega arith)) in let v : _≡_ {A = ℕ} 0 1 = cc in omega arith)
 
   -- and so it is judged to be
-  latest-judged : 0 < m → let p = c - c % m in pick (eqb p c) true (pick (eqb (p % 134217728) 0) true (eqb p g)) ≡ pick (eqb p c) true (pick (eqb (p % 134217728) 0) true (isIn p all))
+  latest-judged : 0 < m → let p = c - c % m in pick (eqb p c) true (pick (eqb (p % ofF) 0) true (eqb p g)) ≡ pick (eqb p c) true (pick (eqb (p % ofF) 0) true (isIn p all))
   latest-judged pos = let p = c - c % m in
-      pick-other (eqb p c) (eqb (p % 134217728) 0) (eqb p g) (isIn p all) (λ u v. latest-floor p (floor m c pos) (eqb-false p c u) (omega (arith, eqb-false (p % 134217728) 0 v)))
+      pick-other (eqb p c) (eqb (p % ofF) 0) (eqb p g) (isIn p all) (λ u v. latest-floor p (floor m c pos) (eqb-false p c u) (omega (arith, eqb-false (p % ofF) 0 v)))
 
 -- so a code of an ascending list has its parent in it if that is the last one before it of its kind
-pub stands-parent : {all rest : List ℕ} {c top group : ℕ} → Latest 512 all (c ∷ rest) group → Latest 262144 all (c ∷ rest) top → ascendingFrom c rest ≡ true → standsUnder c top group ≡ hasParent all c
+pub stands-parent : {all rest : List ℕ} {c top group : ℕ} → Latest 512 all (c ∷ rest) group → Latest ofS all (c ∷ rest) top → ascendingFrom c rest ≡ true → standsUnder c top group ≡ hasParent all c
 unfolding hasParent
 stands-parent {all} {rest} {c} {top} {group} x y up = go (ltb 0 (nOf c))
   where
-    go : (t : Bool) → let p = pick t (c - c % 512) (c - c % 262144) in
-        pick (eqb p c) true (pick (eqb (p % 134217728) 0) true (pick t (eqb p group) (eqb p top))) ≡ pick (eqb p c) true (pick (eqb (p % 134217728) 0) true (isIn p all))
+    go : (t : Bool) → let p = pick t (c - c % 512) (c - c % ofS) in
+        pick (eqb p c) true (pick (eqb (p % ofF) 0) true (pick t (eqb p group) (eqb p top))) ≡ pick (eqb p c) true (pick (eqb (p % ofF) 0) true (isIn p all))
     go true = latest-judged x up (omega arith)
     go false = latest-judged y up (omega arith)
 
@@ -243,18 +170,18 @@ stands-parent {all} {rest} {c} {top} {group} x y up = go (ltb 0 (nOf c))
 pub ascending-rest : (c : ℕ) (l : List ℕ) → ascendingFrom c l ≡ true → ascending l ≡ true
 unfolding ascendingFrom
 ascending-rest c [] u = refl
-ascending-rest c (d ∷ l) u = both-hold (ltb c d) (ascendingFrom d l) u .1
+ascending-rest c (d ∷ l) u = both-true (ltb c d) (ascendingFrom d l) u .1
 
 -- the codes of an ascending list have their parents if those that are still to come have
 pub record Parenting (list rest : List ℕ) (top group : ℕ) : Type 0 where
   pub judged : allParented list rest ≡ allParented list list
   pub up : ascending rest ≡ true
   pub groups : Latest 512 list rest group
-  pub tops : Latest 262144 list rest top
+  pub tops : Latest ofS list rest top
 
 -- all are
 pub parenting-none : (list : List ℕ) → ascending list ≡ true → Parenting list list 0 0
-parenting-none list u = record { judged = refl; up = u; groups = latest-none 512 list; tops = latest-none 262144 list }
+parenting-none list u = record { judged = refl; up = u; groups = latest-none 512 list; tops = latest-none ofS list }
 
 module _ {list rest : List ℕ} {c top group : ℕ} (x : Parenting list (c ∷ rest) top group) where
   parent : standsUnder c top group ≡ hasParent list c
@@ -265,7 +192,7 @@ module _ {list rest : List ℕ} {c top group : ℕ} (x : Parenting list (c ∷ r
   unfolding allParented
   parenting-fails e = rw (sym parent ∙ e) at (x .judged)
 
-  pub parenting-turn : {top′ group′ : ℕ} → standsUnder c top group ≡ true → Latest 512 list rest group′ → Latest 262144 list rest top′ → Parenting list rest top′ group′
+  pub parenting-turn : {top′ group′ : ℕ} → standsUnder c top group ≡ true → Latest 512 list rest group′ → Latest ofS list rest top′ → Parenting list rest top′ group′
   unfolding allParented
   parenting-turn e g t = record { judged = rw (sym parent ∙ e) at (x .judged); up = ascending-rest c rest (x .up); groups = g; tops = t }
 

@@ -1,28 +1,35 @@
--- What is put into a buffer of 64 octets, piece by piece: octets, a block, the blocks of a list part by part; and what is known of the
+-- What is put into a buffer of 64 octets, piece by piece: octets, a block, the blocks of a list head by head; and what is known of the
 -- parts of an ascending list.
 -- Assumes nothing.
 use Prim.Native.Nat.{ℕ, zero, suc, _+_, _-_, _*_, _/_, _%_, _^_, _<_, _≤_}
 use mathlib.Core.Path.{_≡_, refl, sym, ap, _∙_}
-use mathlib.Core.Bool.{Bool, true, false}
+use mathlib.Core.Bool.{true, false}
 use mathlib.Core.List.{List, [], _∷_, _++_, append-assoc, append-nil}
 use native.Mathlib.Nat.{suc-mul, zero-mul, one-mul, mod-lt, mod-add-div', pow-suc, lt-of-mul-lt-mul-right}
 use lib.Pow.{pow-pos, pow-mono, shl-exact}
 use native.Mathlib.Numerals.{add-one}
 use native.Mathlib.Omega.{arith}
 use borrow.Author.Tests.{ltb-true, lt-ltb, le-ltb, eq-eqb, ne-eqb}
-use lib.Dec.{ltb}
+use lib.Dec.{ltb, eqb}
 use lib.ListN.{length, getD, set, take, drop, replicate, replicate-append-replicate, drop-of-length-le, length-append, length-set, length-drop}
-use lib.Seq.{sets, sets-eq, take-append-seam, drop-cons, drop-drop, take-all, take-at, drop-at, set-set, getD-set-same}
+use lib.Seq.{sets, sets-eq, take-append-seam, drop-drop, take-all, take-at, drop-at}
 use Rattle.octets.specs.Lay.{over}
 use Rattle.octets.specs.Places.{pick}
+use Rattle.octets.proofs.Laws.{drop-next, both-true}
 use Rattle.octets.proofs.Laying.{over-fits}
-use Rattle.tree.specs.Codes.{fieldBase}
+use Rattle.tree.specs.Codes.{fieldBase, ofS}
 use Rattle.message.specs.Kinds.{firstOctet}
-use Rattle.message.specs.Reader.{mostOctets}
-use Rattle.writer.specs.Meaning.{ascendingFrom}
-use Rattle.writer.specs.Written.{passed, skipped, carried, blockFrom, block, run, from, positions, marked, subsWritten, lowerWritten, parWritten, parsWritten, restWritten, written}
-use Rattle.writer.specs.Writer.{messageOctets, unlessLong, Writes}
-use Rattle.writer.specs.Inner.{Puts, Between}
+use Rattle.tree.specs.Fields.{mostOctets}
+use Rattle.meaning.specs.Meaning.{ascendingFrom}
+use Rattle.meaning.specs.Written.{passed, skipped, carried, blockFrom, block, run, from, positions, marked, written}
+use Rattle.meaning.specs.Writing.{messageOctets, unlessLong}
+use Rattle.writer.specs.Writer.{Writes}
+use Rattle.writer.specs.Inner.{Puts, endsPar, lowerBlock, headBlocks, headPut, headsFrom, fieldPut}
+use Rattle.meaning.specs.Inner.{Between}
+use Rattle.meaning.proofs.Blocks.{sets-marked, length-marked, block-some}
+use Rattle.meaning.proofs.Growing.{within-wider, cut-within, run-from}
+use Rattle.meaning.proofs.Meanings.{within-between, between-within}
+use Rattle.writer.proofs.Heads.{heads-next}
 use Rattle.writer.specs.declared.MessageWritten.the-variants.{Octets, TooLong}
 use Rattle.writer.specs.declared.Row.{Row}
 
@@ -53,7 +60,7 @@ puts-then {a} {b} {out₀} {at₀ = at₀} {at₁} x y =
 pub puts-most : {a out₀ out₁ : List ℕ} {at₀ at₁ : ℕ} → Puts a out₀ at₀ out₁ at₁ → at₁ ≤ 65
 puts-most x = omega (arith, x .at)
 
-pub puts-some : {a out₀ out₁ : List ℕ} {at₀ at₁ : ℕ} → Puts a out₀ at₀ out₁ at₁ → 0 < length a → 0 < at₁
+puts-some : {a out₀ out₁ : List ℕ} {at₀ at₁ : ℕ} → Puts a out₀ at₀ out₁ at₁ → 0 < length a → 0 < at₁
 puts-some x h = omega (arith, x .at)
 
 -- of the octets all but the last ones, todo, were put
@@ -86,24 +93,9 @@ puts-octet out at o size h = record { at = omega arith; out = λ _. refl; size =
 pub puts-over : (out : List ℕ) (at o : ℕ) → length out ≡ 64 → 64 ≤ at → Puts (o ∷ []) out at out 65
 puts-over out at o size h = record { at = omega arith; out = λ n. absurd (omega arith); size = size }
 
--- bit 8 is set in the last octet that was stored
-pub sets-marked : (d : ℕ) (ds l : List ℕ) (i : ℕ) → i + suc (length ds) ≤ length l
-    → set (sets l i (d ∷ ds)) (i + length ds) (getD (sets l i (d ∷ ds)) (i + length ds) 0 % 128 + 128) ≡ sets l i (marked (d ∷ ds))
-unfolding marked
-sets-marked d [] l i h = let e : i + 0 ≡ i = omega arith in rw (e, getD-set-same l i d 0 (omega arith), set-set l i d (d % 128 + 128))
-sets-marked d (e ∷ ds) l i h =
-    let n : i + suc (length ds) ≡ suc i + length ds = omega arith in
-    rw n (sets-marked e ds (set l i d) (suc i) (omega (arith, length-set l i d)))
-
--- marking changes no length
-pub length-marked : (d : ℕ) (ds : List ℕ) → length (marked (d ∷ ds)) ≡ suc (length ds)
-unfolding marked
-length-marked d [] = refl
-length-marked d (e ∷ ds) = ap suc (length-marked e ds)
-
 -- bit 8 is set in the last octet that was put
 pub puts-marked : {a out₀ out₁ out₂ : List ℕ} {at₀ at₁ : ℕ} → length out₀ ≡ 64 → 0 < length a → Puts a out₀ at₀ out₁ at₁ → length out₂ ≡ 64
-    → (at₁ ≤ 64 → out₂ ≡ set out₁ (at₁ - 1) (getD out₁ (at₁ - 1) 0 % 128 + 128)) → Puts (marked a) out₀ at₀ out₂ at₁
+    → out₂ ≡ set out₁ (at₁ - 1) (getD out₁ (at₁ - 1) 0 % 128 + 128) → Puts (marked a) out₀ at₀ out₂ at₁
 puts-marked {a = []} full some x size m = absurd (omega arith)
 puts-marked {a = d ∷ ds} {out₀} {at₀ = at₀} {at₁} full some x size m =
     let n = length-marked d ds in
@@ -111,7 +103,7 @@ puts-marked {a = d ∷ ds} {out₀} {at₀ = at₀} {at₁} full some x size m =
       at = omega (arith, x .at);
       out = λ h.
           let e : at₁ - 1 ≡ at₀ + length ds = omega (arith, x .at) in
-          m (omega (arith, x .at)) ∙ rw (e, x .out (omega arith)) (sets-marked d ds out₀ at₀ (omega arith));
+          m ∙ rw (e, x .out (omega arith)) (sets-marked d ds out₀ at₀ (omega arith));
       size = size;
     }
 
@@ -149,32 +141,9 @@ bit w n a some most low =
         rw (z, add-one n) (omega (arith, pow-suc 2 n))
     go (suc k) e = rw (add-one (n % w)) (omega (arith, pow-suc 2 (n % w), pow-pos (n % w)))
 
--- a block has an octet at least
-pub block-some : (w m p a : ℕ) (qs : List ℕ) → 0 < length (blockFrom w m p a qs)
-unfolding blockFrom
-block-some w m p a [] = omega arith
-block-some w m p a (q ∷ qs) =
-    let k = passed w p q in
-    let rest = blockFrom w m (p + k * w) (carried k a + 2 ^ ((q - p - 1) % w)) qs in
-    omega (arith, length-append (skipped k a) rest, block-some w m (p + k * w) (carried k a + 2 ^ ((q - p - 1) % w)) qs)
-
 -- ---- the parts of a list
 
--- a list from place i on is the code there and the list behind it
-pub drop-next : (l : List ℕ) (i : ℕ) → i < length l → drop i l ≡ getD l i 0 ∷ drop (i + 1) l
-drop-next l i h = rw (add-one i) (drop-cons l i 0 h)
-
--- the codes below a limit with which a list begins, and the others
-pub run-from : (lim : ℕ) (l : List ℕ) → run lim l ++ from lim l ≡ l
-unfolding run from
-run-from lim [] = refl
-run-from lim (c ∷ l) = go (ltb c lim) (run-from lim l)
-  where
-    go : (t : Bool) → run lim l ++ from lim l ≡ l → pick t (c ∷ run lim l) [] ++ pick t (from lim l) (c ∷ l) ≡ c ∷ l
-    go true e = ap (λ (x : List ℕ). c ∷ x) e
-    go false e = refl
-
--- they are parts of the list
+-- the codes below a limit with which a list begins, and the others, are parts of the list
 run-part : (lim n : ℕ) (l : List ℕ) → n ≡ length (run lim l) → take n l ≡ run lim l
 run-part lim n l e = ap (λ (x : List ℕ). take n x) (sym (run-from lim l)) ∙ take-at (run lim l) (from lim l) n (sym e)
 
@@ -206,63 +175,32 @@ run-ends lim i l h = rw (drop-of-length-le l {i = i} h) (omega arith)
 
 -- ---- ascending lists
 
--- a test and another one hold
-pub both-hold : (a b : Bool) → pick a b false ≡ true → (a ≡ true) × (b ≡ true)
-both-hold true b e = (refl, e)
-both-hold false b e = let z : _≡_ {A = ℕ} 0 1 = cc in absurd (omega arith)
-
 -- what is known of the first code, and of the others
 pub between-head : {b lim c : ℕ} {l : List ℕ} → Between b lim (c ∷ l) → (b < c) × (c < lim)
 unfolding ascendingFrom
-between-head {b} {c = c} {l} x = (ltb-true b c (both-hold (ltb b c) (ascendingFrom c l) (x .up) .0), x .below 0 (omega arith))
+between-head {b} {c = c} {l} x = (ltb-true b c (both-true (ltb b c) (ascendingFrom c l) (x .up) .0), x .below 0 (omega arith))
 
 pub between-rest : {b lim c : ℕ} {l : List ℕ} → Between b lim (c ∷ l) → Between c lim l
 unfolding ascendingFrom
-between-rest {b} {c = c} {l} x = record { up = both-hold (ltb b c) (ascendingFrom c l) (x .up) .1; below = λ i h. x .below (suc i) (omega arith) }
+between-rest {b} {c = c} {l} x = record { up = both-true (ltb b c) (ascendingFrom c l) (x .up) .1; below = λ i h. x .below (suc i) (omega arith) }
 
--- and the other way round
-pub between-cons : {b lim c : ℕ} {l : List ℕ} → b < c → c < lim → Between c lim l → Between b lim (c ∷ l)
-unfolding ascendingFrom
-between-cons {b} {lim} {c} {l} h k x = record { up = rw (lt-ltb _ _ h) (x .up); below = go }
-  where
-    go : (i : ℕ) → i < suc (length l) → getD (c ∷ l) i 0 < lim
-    go zero i = k
-    go (suc j) i = x .below j (omega arith)
+-- in a wider range
+pub between-wider : {b b′ lim lim′ : ℕ} {l : List ℕ} → b′ ≤ b → lim ≤ lim′ → Between b lim l → Between b′ lim′ l
+between-wider {b} {b′} {lim} {l = l} h k x = record {
+  up = within-between b′ lim l (within-wider (suc b) (suc b′) lim l (omega arith) (between-within b lim l x)) .up;
+  below = λ i j. omega (arith, x .below i j);
+}
 
-pub between-nil : (b lim : ℕ) → Between b lim []
-unfolding ascendingFrom
-between-nil b lim = record { up = refl; below = λ i h. absurd (omega arith) }
+-- the codes of an ascending list from a limit on
+between-from : {b lim : ℕ} (x : ℕ) (l : List ℕ) → b < x → Between b lim l → Between b lim (from x l)
+between-from {b} {lim} x l h y = within-between b lim (from x l) (within-wider x (suc b) lim (from x l) h (cut-within (suc b) x lim l (between-within b lim l y) .1))
 
--- from further below
-pub between-lower : {b b′ lim : ℕ} {l : List ℕ} → b′ ≤ b → Between b lim l → Between b′ lim l
-between-lower {l = []} h x = between-nil _ _
-between-lower {l = c ∷ l} h x = between-cons (omega (arith, between-head x .0)) (between-head x .1) (between-rest x)
-
--- the codes of an ascending list below a limit, and the others
-pub between-run : {b lim : ℕ} (x : ℕ) (l : List ℕ) → Between b lim l → Between b x (run x l)
-unfolding run
-between-run x [] y = between-nil _ _
-between-run {b} {lim} x (c ∷ l) y = go (ltb c x) refl (between-run x l (between-rest y))
-  where
-    go : (t : Bool) → ltb c x ≡ t → Between c x (run x l) → Between b x (pick t (c ∷ run x l) [])
-    go true e z = between-cons (between-head y .0) (ltb-true c x e) z
-    go false e z = between-nil _ _
-
-pub between-from : {b lim : ℕ} (x : ℕ) (l : List ℕ) → Between b lim l → Between b lim (from x l)
-unfolding from
-between-from x [] y = between-nil _ _
-between-from {b} {lim} x (c ∷ l) y = go (ltb c x) (between-lower (omega (arith, between-head y .0)) (between-from x l (between-rest y)))
-  where
-    go : (t : Bool) → Between b lim (from x l) → Between b lim (pick t (from x l) (c ∷ l))
-    go true z = z
-    go false z = y
-
--- as slices
+-- those below it, and those from it on, as slices
 pub between-front : {b lim : ℕ} (x n : ℕ) (l : List ℕ) → n ≡ length (run x l) → Between b lim l → Between b x (take (n - 0) l)
-between-front x n l e y = rw (slice-run x n l e) (between-run x l y)
+between-front {b} {lim} x n l e y = rw (slice-run x n l e) (within-between b x (run x l) (cut-within (suc b) x lim l (between-within b lim l y) .0))
 
-pub between-behind : {b lim : ℕ} (x n : ℕ) (l : List ℕ) → n ≡ length (run x l) → Between b lim l → Between b lim (take (length l - n) (drop n l))
-between-behind x n l e y = rw (slice-behind x n l e) (between-from x l y)
+pub between-behind : {b lim : ℕ} (x n : ℕ) (l : List ℕ) → b < x → n ≡ length (run x l) → Between b lim l → Between b lim (take (length l - n) (drop n l))
+between-behind x n l h e y = rw (slice-behind x n l e) (between-from x l h y)
 
 -- ---- a block, code by code
 
@@ -285,7 +223,7 @@ blocking-none w m step base list out at x size h = record {
   reached = omega arith;
   near = omega arith;
   low = omega arith;
-  rest = between-lower (omega (arith, zero-mul step)) x;
+  rest = between-wider (omega (arith, zero-mul step)) (omega arith) x;
 }
 
 -- the code at place i, and its position q
@@ -305,7 +243,7 @@ module _ {w m step base : ℕ} {list : List ℕ} {i : ℕ} {out₀ : List ℕ} {
     reached = x .reached;
     near = x .near;
     low = x .low;
-    rest = between-lower (omega (arith, between-head here .0)) (between-rest here);
+    rest = between-wider (omega (arith, between-head here .0)) (omega arith) (between-rest here);
   }
 
   -- it is one, q: above the last one, and at most 511
@@ -339,7 +277,7 @@ module _ {w m step base : ℕ} {list : List ℕ} {i : ℕ} {out₀ : List ℕ} {
           reached = omega arith;
           near = omega arith;
           low = let e : q - row₁ .above ≡ n % w + 1 = omega arith in rw (e, y .2) (bit w n (row .octet) some few blocking-low .above);
-          rest = between-lower (omega (arith, whole, blocking-base)) (between-rest here);
+          rest = between-wider (omega (arith, whole, blocking-base)) (omega arith) (between-rest here);
         }
 
 -- the last octet is put
@@ -352,123 +290,77 @@ blocking-end {list = list} {i} x h y = putting-end (rw (drop-of-length-le list {
 pub blocking-fits : {w m step base : ℕ} {list : List ℕ} {i : ℕ} {out₀ : List ℕ} {at₀ : ℕ} {out : List ℕ} {row : Row} → Blocking w m step base list i out₀ at₀ out row → m ≡ 2 ^ w → w ≤ 7 → row .octet + m < 256
 blocking-fits {w} {row = row} x e h = omega (arith, x .low, pow-mono {i = x .last - row .above} {j = w} (omega (arith, x .near)), pow-mono {i = w} {j = 7} h)
 
--- ---- the blocks of a list part by part
-
--- octets made of a list part by part: of each part's first code and those less than d above it, k parts at most
-pub record Parted (whole : ℕ → List ℕ → List ℕ) (d : ℕ) (part : ℕ → List ℕ → List ℕ) : Type 0 where
-  pub none : (l : List ℕ) → whole 0 l ≡ []
-  pub ends : (k : ℕ) → whole (suc k) [] ≡ []
-  pub next : (k c : ℕ) (l : List ℕ) → whole (suc k) (c ∷ l) ≡ part c (run (c + d) l) ++ whole k (from (c + d) l)
-
--- the NPar(3) blocks, and the Par(2) blocks
-pub subs-parted : Parted subsWritten 512 (λ t l. block 6 64 (positions 1 t l))
-unfolding subsWritten
-subs-parted = record { none = λ l. refl; ends = λ k. refl; next = λ k c l. refl }
-
-pub pars-parted : Parted parsWritten 262144 parWritten
-unfolding parsWritten
-pars-parted = record { none = λ l. refl; ends = λ k. refl; next = λ k c l. refl }
-
--- what lies behind a run is no longer than the list
-from-length : (lim : ℕ) (l : List ℕ) → length (from lim l) ≤ length l
-from-length lim l = omega (arith, ap length (run-from lim l), length-append (run lim l) (from lim l))
-
-module _ {whole : ℕ → List ℕ → List ℕ} {d : ℕ} {part : ℕ → List ℕ → List ℕ} (x : Parted whole d part) where
-  -- more parts than codes make no difference
-  enough : (k j : ℕ) (l : List ℕ) → length l ≤ k → length l ≤ j → whole k l ≡ whole j l
-  enough zero zero l h g = refl
-  enough zero (suc j) [] h g = x .none [] ∙ sym (x .ends j)
-  enough zero (suc j) (c ∷ l) h g = absurd (omega arith)
-  enough (suc k) zero [] h g = x .ends k ∙ sym (x .none [])
-  enough (suc k) zero (c ∷ l) h g = absurd (omega arith)
-  enough (suc k) (suc j) [] h g = x .ends k ∙ sym (x .ends j)
-  enough (suc k) (suc j) (c ∷ l) h g =
-      let n = from-length (c + d) l in
-      x .next k c l ∙ rw (enough k j (from (c + d) l) (omega arith) (omega arith)) (sym (x .next j c l))
-
-  -- the next part of a list, from place i on, where n codes stand under its first
-  pub parted-next : (i n : ℕ) (l : List ℕ) → i < length l → n ≡ length (run (getD l i 0 + d) (drop (i + 1) l))
-      → whole (length (drop i l)) (drop i l) ≡ part (getD l i 0) (run (getD l i 0 + d) (drop (i + 1) l)) ++ whole (length (drop (i + 1 + n) l)) (drop (i + 1 + n) l)
-  parted-next i n l h e =
-      let c = getD l i 0 in
-      let rest = drop (i + 1) l in
-      let behind : drop (i + 1 + n) l ≡ from (c + d) rest = sym (drop-drop n (i + 1) l) ∙ from-part (c + d) n rest e in
-      rw (drop-next l i h, behind) (x .next (length rest) c rest
-      ∙ ap (λ (y : List ℕ). part c (run (c + d) rest) ++ y) (enough (length rest) (length (from (c + d) rest)) (from (c + d) rest) (from-length (c + d) rest) (omega arith)))
+-- ---- the blocks of a list head by head
 
 -- all but what the codes from place i on give was put
-pub record Parting (whole : ℕ → List ℕ → List ℕ) (base lim : ℕ) (list : List ℕ) (i : ℕ) (out₀ : List ℕ) (at₀ : ℕ) (out : List ℕ) (at : ℕ) : Type 0 where
-  pub puts : Putting (whole (length list) list) (whole (length (drop i list)) (drop i list)) out₀ at₀ out at
-  pub rest : Between base lim (drop i list)
-  pub within : i ≤ length list
+pub record Parting (list : List ℕ) (i : ℕ) (out₀ : List ℕ) (at₀ : ℕ) (out : List ℕ) (at : ℕ) : Type 0 where
+  pub puts : Putting (headsFrom 0 list) (headsFrom 0 (drop i list)) out₀ at₀ out at
+  pub rest : Between 0 (fieldBase 3) (drop i list)
 
--- nothing was put yet
-pub parting-none : (whole : ℕ → List ℕ → List ℕ) (base lim : ℕ) (list out : List ℕ) (at : ℕ) → Between base lim list → length out ≡ 64 → at ≤ 65 → Parting whole base lim list 0 out at out at
-parting-none whole base lim list out at x size h = record { puts = putting-none _ out at size h; rest = x; within = omega arith }
-
--- the next part: the code at place i, and the n codes behind it that are less than d above it
-module _ {whole : ℕ → List ℕ → List ℕ} {d : ℕ} {part : ℕ → List ℕ → List ℕ} (y : Parted whole d part) {base lim : ℕ} {list : List ℕ} {i : ℕ} {out₀ : List ℕ} {at₀ : ℕ} {out : List ℕ} {at : ℕ}
-    (x : Parting whole base lim list i out₀ at₀ out at) (h : i < length list) where
-  first : Between base lim (getD list i 0 ∷ drop (i + 1) list)
+-- the head at place i, and the n codes under it
+module _ {list : List ℕ} {i : ℕ} {out₀ : List ℕ} {at₀ : ℕ} {out : List ℕ} {at : ℕ} (x : Parting list i out₀ at₀ out at) (h : i < length list) where
+  first : Between 0 (fieldBase 3) (getD list i 0 ∷ drop (i + 1) list)
   first = rw (drop-next list i h) at (x .rest)
 
-  pub parting-head : (base < getD list i 0) × (getD list i 0 < lim)
-  parting-head = between-head first
+  pub parting-head : getD list i 0 < fieldBase 3
+  parting-head = between-head first .1
 
-  module _ {n : ℕ} (e : n ≡ length (run (getD list i 0 + d) (take (length list - (i + 1)) (drop (i + 1) list)))) where
-    count : n ≡ length (run (getD list i 0 + d) (drop (i + 1) list))
+  module _ {n : ℕ} (e : n ≡ length (run (getD list i 0 + 512) (take (length list - (i + 1)) (drop (i + 1) list)))) where
+    count : n ≡ length (run (getD list i 0 + 512) (drop (i + 1) list))
     count = rw (slice-from list (i + 1)) at e
 
     pub parting-count : i + 1 + n ≤ length list
-    parting-count = omega (arith, count, length-drop (i + 1) list, ap length (run-from (getD list i 0 + d) (drop (i + 1) list)), length-append (run (getD list i 0 + d) (drop (i + 1) list)) (from (getD list i 0 + d) (drop (i + 1) list)))
+    parting-count = omega (arith, count, length-drop (i + 1) list, ap length (run-from (getD list i 0 + 512) (drop (i + 1) list)), length-append (run (getD list i 0 + 512) (drop (i + 1) list)) (from (getD list i 0 + 512) (drop (i + 1) list)))
 
-    pub parting-between : Between (getD list i 0) (getD list i 0 + d) (take (n - 0) (take (length list - (i + 1)) (drop (i + 1) list)))
-    parting-between = rw (slice-from list (i + 1)) (between-front _ n _ count (between-rest first))
+    pub parting-under : Between (getD list i 0) (getD list i 0 + 512) (take (n - 0) (take (length list - (i + 1)) (drop (i + 1) list)))
+    parting-under = rw (slice-from list (i + 1)) (between-front _ n _ count (between-rest first))
 
-    -- is put
-    pub parting-turn : {out₁ : List ℕ} {at₁ : ℕ} → Puts (part (getD list i 0) (take (n - 0) (take (length list - (i + 1)) (drop (i + 1) list)))) out at out₁ at₁
-        → Parting whole base lim list (i + 1 + n) out₀ at₀ out₁ at₁
-    parting-turn z = record {
-      puts = putting-turn (rw (parted-next y i n list h count) at (x .puts)) (rw (slice-run _ n _ e, slice-from list (i + 1)) at z);
-      rest = rw (← (drop-drop n (i + 1) list), from-part _ n _ count) (between-lower (omega (arith, parting-head)) (between-from _ _ (between-rest first)));
-      within = parting-count;
-    }
+    behind : drop (i + 1 + n) list ≡ from (getD list i 0 + 512) (drop (i + 1) list)
+    behind = sym (drop-drop n (i + 1) list) ∙ from-part _ n _ count
 
--- all parts were put
-pub parting-end : {whole : ℕ → List ℕ → List ℕ} {d : ℕ} {part : ℕ → List ℕ → List ℕ} {base lim : ℕ} {list : List ℕ} {i : ℕ} {out₀ : List ℕ} {at₀ : ℕ} {out : List ℕ} {at : ℕ} → Parted whole d part
-    → Parting whole base lim list i out₀ at₀ out at → length list ≤ i → Puts (whole (length list) list) out₀ at₀ out at
-parting-end {list = list} {i} y x h = putting-all (rw (drop-of-length-le list {i = i} h, y .none []) at (x .puts))
+    others : Between (getD list i 0) (fieldBase 3) (drop (i + 1 + n) list)
+    others = rw behind (between-from _ _ (omega arith) (between-rest first))
 
--- ---- the parts of a field
+    pub parting-behind : Between (getD list i 0) (fieldBase 3) (take (length list - (i + 1 + n)) (drop (i + 1 + n) list))
+    parting-behind = rw (slice-from list (i + 1 + n)) others
 
--- behind NPar(2) stand SPar(2) and what it announces, or nothing
-pub lower-none : (c : ℕ) (l : List ℕ) → length l ≡ 0 → lowerWritten c l ≡ []
-unfolding lowerWritten
-lower-none c [] h = refl
-lower-none c (t ∷ l) h = absurd (omega arith)
+    -- its blocks are put
+    module _ {out₁ out₂ : List ℕ} {at₁ at₂ : ℕ} (y : Puts (block 6 64 (positions 1 (getD list i 0) (take (n - 0) (take (length list - (i + 1)) (drop (i + 1) list))))) out at out₁ at₁)
+        (z : Puts (lowerBlock (getD list i 0) (take (length list - (i + 1 + n)) (drop (i + 1 + n) list))) out₁ at₁ out₂ at₂) where
+      blocks : Puts (headBlocks (getD list i 0) (run (getD list i 0 + 512) (drop (i + 1) list)) (drop (i + 1 + n) list)) out at out₂ at₂
+      blocks = puts-then (rw (slice-run _ n _ e, slice-from list (i + 1)) at y) (rw (slice-from list (i + 1 + n)) at z)
 
-pub lower-some : (c : ℕ) (l : List ℕ) → (length l ≡ 0 → ⊥) → lowerWritten c l ≡ block 6 64 (positions 512 c l) ++ subsWritten (length l) l
-unfolding lowerWritten
-lower-some c [] h = absurd (h refl)
-lower-some c (t ∷ l) h = refl
+      turn : {out₃ : List ℕ} → Puts (headPut (getD list i 0) (run (getD list i 0 + 512) (drop (i + 1) list)) (drop (i + 1 + n) list)) out at out₃ at₂
+          → Parting list (i + 1 + n) out₀ at₀ out₃ at₂
+      turn p = record {
+        puts = putting-turn (rw (drop-next list i h, heads-next (getD list i 0) (drop (i + 1) list), ← behind) at (x .puts)) p;
+        rest = between-wider (omega arith) (omega arith) others;
+      }
 
--- a Par(2) block is put: NPar(2), what is behind it, and bit 8
-pub par-puts : {out₀ out₁ out₂ out₃ : List ℕ} {at₀ at₁ at₂ : ℕ} (c n : ℕ) (l : List ℕ) → n ≡ length (run (c + 512) l) → length out₀ ≡ 64
-    → Puts (block 6 64 (positions 1 c (take (n - 0) l))) out₀ at₀ out₁ at₁ → Puts (lowerWritten c (take (length l - n) (drop n l))) out₁ at₁ out₂ at₂
-    → length out₃ ≡ 64 → (at₂ ≤ 64 → out₃ ≡ set out₂ (at₂ - 1) (getD out₂ (at₂ - 1) 0 % 128 + 128)) → Puts (parWritten c l) out₀ at₀ out₃ at₂
-unfolding parWritten
-par-puts c n l e size x y kept m =
-    let front = block 6 64 (positions 1 c (run (c + 512) l)) in
-    let behind = lowerWritten c (from (c + 512) l) in
-    let x′ = rw (slice-run (c + 512) n l e) at x in
-    let y′ = rw (slice-behind (c + 512) n l e) at y in
-    puts-marked size (omega (arith, length-append front behind, block-some 6 64 0 0 (positions 1 c (run (c + 512) l)))) (puts-then x′ y′) kept m
+      -- and an SPar(2) follows, or bit 8 is set
+      pub parting-on : endsPar (drop (i + 1 + n) list) ≡ false → Parting list (i + 1 + n) out₀ at₀ out₂ at₂
+      parting-on k = turn (rw k blocks)
+
+      pub parting-closed : {out₃ : List ℕ} → endsPar (drop (i + 1 + n) list) ≡ true → length out₃ ≡ 64
+          → out₃ ≡ pick (ltb 0 at₂) (set out₂ (at₂ - 1) (getD out₂ (at₂ - 1) 0 % 128 + 128)) out₂ → Parting list (i + 1 + n) out₀ at₀ out₃ at₂
+      parting-closed k size m = let some : 0 < at₂ = omega (arith, z .at, puts-some y (block-some 6 64 _)) in turn (rw k (puts-marked (x .puts .puts .size) (omega (arith, length-append (block 6 64 (positions 1 (getD list i 0) (run (getD list i 0 + 512) (drop (i + 1) list)))) (lowerBlock (getD list i 0) (drop (i + 1 + n) list)), block-some 6 64 (positions 1 (getD list i 0) (run (getD list i 0 + 512) (drop (i + 1) list))))) blocks size (rw (lt-ltb 0 at₂ some) at m)))
+
+-- all heads' blocks were put
+pub parting-end : {list : List ℕ} {i : ℕ} {out₀ : List ℕ} {at₀ : ℕ} {out : List ℕ} {at : ℕ} → Parting list i out₀ at₀ out at → length list ≤ i → Puts (headsFrom 0 list) out₀ at₀ out at
+unfolding headsFrom
+parting-end {list} {i} x h = putting-all (rw (drop-of-length-le list {i = i} h) at (x .puts))
+
+-- whether one follows at place i
+pub ends-there : (list : List ℕ) (i : ℕ) → length list ≤ i → true ≡ endsPar (drop i list)
+ends-there list i h = rw (drop-of-length-le list {i = i} h)
+
+pub ends-before : (list : List ℕ) (i : ℕ) → i < length list → eqb (getD list i 0 % ofS) 0 ≡ endsPar (drop i list)
+ends-before list i h = rw (drop-next list i h)
 
 -- a field is put: NPar(1), SPar(1), and the Par(2) blocks
 pub field-puts : {out₀ out₁ out₂ out₃ : List ℕ} {at₀ at₁ at₂ at₃ : ℕ} (b n : ℕ) (l : List ℕ) → n ≡ length (run (b + 512) l) → let rest = take (length l - n) (drop n l) in
-    Puts (block 7 128 (positions 1 b (take (n - 0) l))) out₀ at₀ out₁ at₁ → Puts (block 7 128 (positions 262144 b rest)) out₁ at₁ out₂ at₂ → Puts (parsWritten (length rest) rest) out₂ at₂ out₃ at₃
-    → Puts (written b l) out₀ at₀ out₃ at₃
-unfolding written restWritten
+    Puts (block 7 128 (positions 1 b (take (n - 0) l))) out₀ at₀ out₁ at₁ → Puts (block 7 128 (positions ofS b rest)) out₁ at₁ out₂ at₂ → Puts (headsFrom 0 rest) out₂ at₂ out₃ at₃
+    → Puts (fieldPut b l) out₀ at₀ out₃ at₃
 field-puts b n l e x y z = rw (slice-run (b + 512) n l e, slice-behind (b + 512) n l e) at (puts-then x (puts-then y z))
 
 -- ---- the message

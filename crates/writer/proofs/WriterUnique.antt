@@ -5,7 +5,8 @@ use mathlib.Core.Path.{_≡_, refl, sym, ap, _∙_}
 use mathlib.Core.List.{List}
 use lib.Dec.{eqb}
 use Rattle.octets.specs.Places.{pick}
-use Rattle.writer.specs.Writer.{Writing, declined, sent, Reply, writeTold, Writes}
+use Rattle.meaning.specs.Writing.{Writing, declined, sent, Reply}
+use Rattle.writer.specs.Writer.{writeTold, Writes}
 use Rattle.writer.specs.declared.MessageWritten.{MessageWritten}
 use Rattle.writer.specs.declared.MessageWritten.the-variants.{Octets, SmallOutput, BadType, BadCode, NotAscending, NoParent, NotEmpty, BadNs, TooLong}
 

@@ -3,7 +3,8 @@
 use Prim.Native.Nat.{ℕ}
 use mathlib.Core.List.{List}
 use lib.ListN.{length}
-use Rattle.writer.specs.Writer.{writeMessage, Writes}
+use Rattle.meaning.specs.Writing.{writeMessage}
+use Rattle.writer.specs.Writer.{Writes}
 use Rattle.writer.specs.declared.MessageWritten.{MessageWritten}
 
 -- write_message

@@ -1,100 +1,11 @@
--- To be believed: what the message writer answers, by the rules' numbers, and what it leaves in the output.
+-- To be believed: the message writer's answers by the rules' numbers, and its reply and output for a writing.
 -- Assumes nothing.
-use Prim.Native.Nat.{ℕ, _≤_}
-use mathlib.Core.Bool.{Bool, true, false, not}
-use mathlib.Core.List.{List, [], _∷_, _++_}
+use Prim.Native.Nat.{ℕ}
+use mathlib.Core.List.{List}
 use mathlib.Core.Path.{_≡_}
-use lib.Dec.{ltb}
-use lib.ListN.{length}
-use Rattle.octets.specs.Lay.{put}
-use Rattle.octets.specs.Places.{pick}
-use Rattle.tree.specs.Codes.{codeOf, fieldBase}
-use Rattle.tree.specs.Form.{isFine}
-use Rattle.tree.specs.Fields.{isIn}
-use Rattle.message.specs.Kinds.{known, hasFields, firstOctet}
-use Rattle.message.specs.Nonstandard.{nsForm}
-use Rattle.message.specs.Reader.{mostOctets}
-use Rattle.writer.specs.Meaning.{allShaped, ascending, allParented}
-use Rattle.writer.specs.Written.{run, from, written}
+use Rattle.meaning.specs.Writing.{Writing, Reply, writeReply, writeLeaves}
 use Rattle.writer.specs.declared.MessageWritten.{MessageWritten}
 use Rattle.writer.specs.declared.MessageWritten.the-variants.{Octets, SmallOutput, BadType, BadCode, NotAscending, NoParent, NotEmpty, BadNs, TooLong}
-
--- a refusal's number, or the octets of the message
-pub data Writing : Type 0 where
-  declined : ℕ → Writing
-  sent : List ℕ → Writing
-
-abbrev pub declinedIf : Bool → ℕ → Writing → Writing
-declinedIf true k w = declined k
-declinedIf false k w = w
-
-abbrev pub isEmpty : List ℕ → Bool
-isEmpty [] = true
-isEmpty (x ∷ l) = false
-
--- an ACK or a NAK has neither list nor NS
-abbrev pub endsThere : ℕ → List ℕ → List ℕ → Bool
-endsThere kind list ns = pick (hasFields kind) true (pick (isEmpty list) (isEmpty ns) false)
-
--- NS is well-formed and announced by code 1.0.0.7, or there is neither
-unfoldable pub nsAgrees : List ℕ → List ℕ → Bool
-nsAgrees list ns =
-    pick (isEmpty ns)
-    (not (isIn (codeOf 1 0 0 7) list))
-    (pick (isFine (nsForm (length ns) ns 0)) (isIn (codeOf 1 0 0 7) list) false)
-
--- octet 1, and of MS, CL and CLR the fields: the codes of I stand below 2.0.0.0
-unfoldable pub messageOctets : ℕ → ℕ → List ℕ → List ℕ → List ℕ
-messageOctets kind revision list ns =
-    firstOctet kind revision
-    ∷ pick (hasFields kind)
-    (written (fieldBase 1) (run (fieldBase 2) list) ++ (written (fieldBase 2) (from (fieldBase 2) list) ++ ns))
-    []
-
--- 10
-abbrev pub unlessLong : List ℕ → Writing
-unlessLong os = declinedIf (ltb mostOctets (length os)) 10 (sent os)
-
--- 8, 9, 10
-unfoldable pub checkedWriting : ℕ → ℕ → List ℕ → List ℕ → Writing
-checkedWriting kind revision list ns =
-    declinedIf (not (endsThere kind list ns)) 8
-    (declinedIf (not (nsAgrees list ns)) 9
-    (unlessLong (messageOctets kind revision list ns)))
-
--- 5, 6, 7, each over the whole list, and then the others
-unfoldable pub listWriting : ℕ → ℕ → List ℕ → List ℕ → Writing
-listWriting kind revision list ns =
-    declinedIf (not (allShaped list)) 5
-    (declinedIf (not (ascending list)) 6
-    (declinedIf (not (allParented list list)) 7
-    (checkedWriting kind revision list ns)))
-
--- 1, 3, and then the others
-unfoldable pub writeMessage : ℕ → ℕ → List ℕ → List ℕ → ℕ → Writing
-writeMessage kind revision list ns room =
-    declinedIf (ltb room mostOctets) 1
-    (declinedIf (not (known kind)) 3
-    (declinedIf (ltb 15 revision) 3
-    (listWriting kind revision list ns)))
-
--- all that the writer asks for, and the octets that it gives
-pub record Writable (kind revision : ℕ) (list ns : List ℕ) (room : ℕ) (os : List ℕ) : Type 0 where
-  pub space : 64 ≤ room
-  pub known-kind : known kind ≡ true
-  pub low : revision ≤ 15
-  pub shapes : allShaped list ≡ true
-  pub up : ascending list ≡ true
-  pub parents : allParented list list ≡ true
-  pub ends : endsThere kind list ns ≡ true
-  pub agrees : nsAgrees list ns ≡ true
-  pub few : length os ≤ 64
-  pub octets : messageOctets kind revision list ns ≡ os
-
--- a reply: the rules' number, 0 for success, and the number of octets
-pub record Reply : Type 0 where
-  pub no : ℕ
-  pub count : ℕ
 
 -- each answer's number and value
 abbrev pub writeTold : MessageWritten → Reply
@@ -107,15 +18,6 @@ writeTold NoParent = record { no = 7; count = 0 }
 writeTold NotEmpty = record { no = 8; count = 0 }
 writeTold BadNs = record { no = 9; count = 0 }
 writeTold TooLong = record { no = 10; count = 0 }
-
-abbrev pub writeReply : Writing → Reply
-writeReply (declined k) = record { no = k; count = 0 }
-writeReply (sent os) = record { no = 0; count = length os }
-
--- the output: a refusal writes nothing, success only the message's octets
-abbrev pub writeLeaves : Writing → List ℕ → List ℕ
-writeLeaves (declined k) out = out
-writeLeaves (sent os) out = put os out
 
 -- the reply r and the output out₁ are those of the writing x into the output out₀
 pub record Writes (x : Writing) (out₀ : List ℕ) (r : MessageWritten) (out₁ : List ℕ) : Type 0 where

@@ -3,30 +3,35 @@ ghost use mathlib.Core.Path.{_≡_};
 ghost use mathlib.Core.Bool.{true};
 ghost use mathlib.Core.List.{[], _∷_, _++_};
 ghost use Prim.Native.Nat.{_+_, _-_, _*_, _%_, _^_, _≤_, _<_};
-ghost use lib.ListN.{length, getD, set};
-ghost use Rattle.tree.specs.Codes.{fieldBase};
-ghost use Rattle.tree.specs.Fields.{isIn};
-ghost use Rattle.writer.specs.Meaning.{shaped, allShaped, ascending, allParented};
-ghost use Rattle.writer.specs.Written.{passed, skipped, carried, block, run, from, positions, subsWritten, lowerWritten, parWritten, parsWritten, written};
+ghost use lib.ListN.{length, getD, set, drop};
+ghost use Rattle.tree.specs.Codes.{ofF, fieldBase};
+ghost use Rattle.tree.specs.Fields.{isIn, mostOctets};
+ghost use Rattle.meaning.specs.Meaning.{shaped, allShaped, ascending, allParented};
+ghost use Rattle.meaning.specs.Written.{passed, skipped, carried, block, run, from, positions, written};
 ghost use Rattle.message.specs.Kinds.{known};
-ghost use Rattle.message.specs.Reader.{mostOctets};
-ghost use Rattle.writer.specs.Writer.{endsThere, nsAgrees, messageOctets, unlessLong, checkedWriting, listWriting, Writes};
-ghost use Rattle.writer.specs.Inner.{standsUnder, Puts, Between};
+ghost use Rattle.meaning.specs.Writing.{endsThere, nsAgrees, messageOctets, unlessLong, checkedWriting, listWriting};
+ghost use Rattle.writer.specs.Writer.{Writes};
+ghost use Rattle.writer.specs.Inner.{standsUnder, Puts, endsPar, lowerBlock, headsFrom, fieldPut};
+ghost use Rattle.meaning.specs.Inner.{Between};
 ghost use Rattle.writer.specs.Contracts.{MessageWrites};
+use message::ACK_1;
 use message::is_known;
 use message::ns_form;
 use octets::copy_front;
+use tree::IDENTIFICATION;
+use tree::MOST_OCTETS;
+use tree::OF_F;
+use tree::OF_S;
+use tree::OF_T;
+use tree::STANDARD;
 use tree::is_fine;
+use tree::mark_last;
 
-const MOST_OCTETS: usize = 64;
+// The place that says that there are too many octets.
+const TOO_MANY: usize = MOST_OCTETS + 1;
 
-const TOO_MANY: usize = 65;
-
-const STANDARD: u32 = 268435456;
-
-const IDENTIFICATION: u32 = 134217728;
-
-const NON_STANDARD: u32 = 134217735;
+// The code that announces NS, 1.0.0.7.
+const NON_STANDARD: u32 = IDENTIFICATION + 7;
 
 // The message writer's answer: the number of octets, or why there are none.
 pub enum MessageWritten {
@@ -45,18 +50,18 @@ pub enum MessageWritten {
 fn is_shaped(code: u32) -> bool
     ensures { λ r. ⌜ r ≡ shaped code ⌝ }
 {
-    let f = code / 134217728;
+    let f = code / OF_F;
     if f < 1 {
         return false;
     }
     if 2 < f {
         return false;
     }
-    if code % 134217728 == 0 {
+    if code % OF_F == 0 {
         return false;
     }
-    if code / 262144 % 512 == 0 {
-        return code / 512 % 512 == 0;
+    if code / OF_S % 512 == 0 {
+        return code / OF_T % 512 == 0;
     }
     true
 }
@@ -109,19 +114,19 @@ fn contains(list: &[u32], code: u32) -> bool
 fn stands_under(code: u32, top: u32, group: u32) -> bool
     ensures { λ r. ⌜ r ≡ standsUnder code top group ⌝ }
 {
-    let n = code % 512;
+    let n = code % OF_T;
     if 0 < n {
         let above = code - n;
-        if above % 134217728 == 0 {
+        if above % OF_F == 0 {
             return true;
         }
         return above == group;
     }
-    let parent = code - code % 262144;
+    let parent = code - code % OF_S;
     if parent == code {
         return true;
     }
-    if parent % 134217728 == 0 {
+    if parent % OF_F == 0 {
         return true;
     }
     parent == top
@@ -141,9 +146,9 @@ fn are_parented(list: &[u32]) -> bool
         if !stands_under(code, top, group) {
             return false;
         }
-        if code % 512 == 0 {
+        if code % OF_T == 0 {
             group = code;
-            if code % 262144 == 0 {
+            if code % OF_S == 0 {
                 top = code;
             }
         }
@@ -255,85 +260,62 @@ fn run_length(list: &[u32], limit: u32) -> usize
     i
 }
 
-// Puts the NPar(3) blocks of the codes under an SPar(1), from its first SPar(2) on.
-fn put_subs(list: &[u32], base: u32, out: &mut [u8], start: usize) -> usize
-    requires { ⌜ Between base (base + 262144) (now list) × (base ≤ 402653184) × (length (now out) ≡ 64) × (start ≤ 65) ⌝ }
-    ensures { λ r. ⌜ Puts (subsWritten (length (now (list .entry))) (now (list .entry))) (now (out .entry)) start (now (out .exit)) r ⌝ }
+// Puts SPar(2) of the codes behind a head's block, if the head is an SPar(1) and there is any.
+fn put_lower(list: &[u32], head: u32, out: &mut [u8], start: usize) -> usize
+    requires { ⌜ Between head (fieldBase 3) (now list) × (head < fieldBase 3) × (length (now out) ≡ 64) × (start ≤ 65) ⌝ }
+    ensures { λ r. ⌜ Puts (lowerBlock head (now (list .entry))) (now (out .entry)) start (now (out .exit)) r ⌝ }
 {
-    let mut at = start;
-    let mut i = 0;
-    while i < list.len() {
-        let head = list[i];
-        let rest = &list[i + 1..];
-        let n = run_length(rest, head + 512);
-        at = put_block(&rest[0..n], head, 1, 6, 64, out, at);
-        i = i + 1 + n;
-    }
-    at
-}
-
-// Puts SPar(2) and its NPar(3) blocks, of the codes under an SPar(1) from its first SPar(2) on, if there is any.
-fn put_lower(list: &[u32], base: u32, out: &mut [u8], start: usize) -> usize
-    requires { ⌜ Between base (base + 262144) (now list) × (base ≤ 402653184) × (length (now out) ≡ 64) × (start ≤ 65) ⌝ }
-    ensures { λ r. ⌜ Puts (lowerWritten base (now (list .entry))) (now (out .entry)) start (now (out .exit)) r ⌝ }
-{
-    if list.len() == 0 {
+    if head % OF_S != 0 {
         return start;
     }
-    let at = put_block(list, base, 512, 6, 64, out, start);
-    put_subs(list, base, out, at)
-}
-
-// Sets bit 8 of the last octet put.
-fn mark_last(out: &mut [u8], at: usize)
-    requires { ⌜ (length (now out) ≡ 64) × (0 < at) ⌝ }
-    ensures { λ _. ⌜ (at ≤ 64 → now (out .exit) ≡ set (now (out .entry)) (at - 1) (getD (now (out .entry)) (at - 1) 0 % 128 + 128)) ⌝ }
-{
-    if at <= MOST_OCTETS {
-        let i = at - 1;
-        out[i] = out[i] % 128 + 128;
+    let n = run_length(list, head + OF_S);
+    if n == 0 {
+        return start;
     }
+    put_block(&list[0..n], head, OF_T, 6, 64, out, start)
 }
 
-// Puts the Par(2) block of the codes under an SPar(1).
-fn put_par(list: &[u32], base: u32, out: &mut [u8], start: usize) -> usize
-    requires { ⌜ Between base (base + 262144) (now list) × (base ≤ 402653184) × (length (now out) ≡ 64) × (start ≤ 65) ⌝ }
-    ensures { λ r. ⌜ Puts (parWritten base (now (list .entry))) (now (out .entry)) start (now (out .exit)) r ⌝ }
+// Whether no SPar(2) of the same SPar(1) follows.
+fn ends_par(list: &[u32], i: usize) -> bool
+    ensures { λ r. ⌜ r ≡ endsPar (drop i (now (list .entry))) ⌝ }
 {
-    let n = run_length(list, base + 512);
-    let middle = put_block(&list[0..n], base, 1, 6, 64, out, start);
-    let end = put_lower(&list[n..], base, out, middle);
-    mark_last(out, end);
-    end
+    if list.len() <= i {
+        return true;
+    }
+    list[i] % OF_S == 0
 }
 
-// Puts the Par(2) blocks of a field's codes, from its first SPar(1) on.
-fn put_pars(list: &[u32], base: u32, out: &mut [u8], start: usize) -> usize
-    requires { ⌜ Between base (base + 134217728) (now list) × (base ≤ 268435456) × (length (now out) ≡ 64) × (start ≤ 65) ⌝ }
-    ensures { λ r. ⌜ Puts (parsWritten (length (now (list .entry))) (now (list .entry))) (now (out .entry)) start (now (out .exit)) r ⌝ }
+// Puts the Par(2) blocks of a field's codes, from its first SPar(1) on: head by head, each a code with something under it.
+fn put_pars(list: &[u32], out: &mut [u8], start: usize) -> usize
+    requires { ⌜ Between 0 (fieldBase 3) (now list) × (length (now out) ≡ 64) × (start ≤ 65) ⌝ }
+    ensures { λ r. ⌜ Puts (headsFrom 0 (now (list .entry))) (now (out .entry)) start (now (out .exit)) r ⌝ }
 {
     let mut at = start;
     let mut i = 0;
     while i < list.len() {
         let head = list[i];
         let rest = &list[i + 1..];
-        let n = run_length(rest, head + 262144);
-        at = put_par(&rest[0..n], head, out, at);
+        let n = run_length(rest, head + OF_T);
+        at = put_block(&rest[0..n], head, 1, 6, 64, out, at);
         i = i + 1 + n;
+        at = put_lower(&list[i..], head, out, at);
+        if ends_par(list, i) {
+            mark_last(out, at);
+        }
     }
     at
 }
 
 // Puts the field of the codes above a base.
 fn put_field(list: &[u32], base: u32, out: &mut [u8], start: usize) -> usize
-    requires { ⌜ Between base (base + 134217728) (now list) × (base ≤ 268435456) × (length (now out) ≡ 64) × (start ≤ 65) ⌝ }
-    ensures { λ r. ⌜ Puts (written base (now (list .entry))) (now (out .entry)) start (now (out .exit)) r ⌝ }
+    requires { ⌜ Between base (base + ofF) (now list) × (base ≤ fieldBase 2) × (length (now out) ≡ 64) × (start ≤ 65) ⌝ }
+    ensures { λ r. ⌜ Puts (fieldPut base (now (list .entry))) (now (out .entry)) start (now (out .exit)) r ⌝ }
 {
-    let n = run_length(list, base + 512);
+    let n = run_length(list, base + OF_T);
     let rest = &list[n..];
     let first = put_block(&list[0..n], base, 1, 7, 128, out, start);
-    let second = put_block(rest, base, 262144, 7, 128, out, first);
-    put_pars(rest, base, out, second)
+    let second = put_block(rest, base, OF_S, 7, 128, out, first);
+    put_pars(rest, out, second)
 }
 
 // Puts octets as they are.
@@ -352,7 +334,7 @@ fn put_run(run: &[u8], out: &mut [u8], start: usize) -> usize
 
 // Puts I, S and NS.
 fn put_fields(list: &[u32], ns: &[u8], out: &mut [u8], start: usize) -> usize
-    requires { ⌜ (allShaped (now list) ≡ true) × (ascending (now list) ≡ true) × (length (now out) ≡ 64) × (start ≤ 65) ⌝ }
+    requires { ⌜ (allShaped (now list) ≡ true) × (ascending (now list) ≡ true) × (allParented (now list) (now list) ≡ true) × (length (now out) ≡ 64) × (start ≤ 65) ⌝ }
     ensures { λ r. ⌜ Puts (written (fieldBase 1) (run (fieldBase 2) (now (list .entry))) ++ (written (fieldBase 2) (from (fieldBase 2) (now (list .entry))) ++ now (ns .entry))) (now (out .entry)) start (now (out .exit)) r ⌝ }
 {
     let n = run_length(list, STANDARD);
@@ -378,12 +360,12 @@ fn ns_agrees(list: &[u32], ns: &[u8]) -> bool
 
 // The message, where its type, its list and its NS are right, unless it is too long.
 fn put_message(kind: u8, revision: u8, list: &[u32], ns: &[u8], out: &mut [u8]) -> MessageWritten
-    requires { ⌜ (revision ≤ 15) × (known kind ≡ true) × (allShaped (now list) ≡ true) × (ascending (now list) ≡ true) × (endsThere kind (now list) (now ns) ≡ true) × (mostOctets ≤ length (now out)) ⌝ }
+    requires { ⌜ (revision ≤ 15) × (known kind ≡ true) × (allShaped (now list) ≡ true) × (ascending (now list) ≡ true) × (allParented (now list) (now list) ≡ true) × (endsThere kind (now list) (now ns) ≡ true) × (mostOctets ≤ length (now out)) ⌝ }
     ensures { λ r. ⌜ Writes (unlessLong (messageOctets kind revision (now (list .entry)) (now (ns .entry)))) (now (out .entry)) r (now (out .exit)) ⌝ }
 {
     let mut octets = [0u8; 64];
     let mut end = put_octet(&mut octets, 0, revision * 16 + kind);
-    if kind < 4 {
+    if kind < ACK_1 {
         end = put_fields(list, ns, &mut octets, end);
     }
     if MOST_OCTETS < end {
@@ -397,7 +379,7 @@ fn put_message(kind: u8, revision: u8, list: &[u32], ns: &[u8], out: &mut [u8]) 
 fn ends_there(kind: u8, list: &[u32], ns: &[u8]) -> bool
     ensures { λ r. ⌜ r ≡ endsThere kind (now (list .entry)) (now (ns .entry)) ⌝ }
 {
-    if kind < 4 {
+    if kind < ACK_1 {
         return true;
     }
     if list.len() != 0 {
@@ -408,7 +390,7 @@ fn ends_there(kind: u8, list: &[u32], ns: &[u8]) -> bool
 
 // Refusals 8 to 10, where the type, the revision and the list are right.
 fn write_checked(kind: u8, revision: u8, list: &[u32], ns: &[u8], out: &mut [u8]) -> MessageWritten
-    requires { ⌜ (revision ≤ 15) × (known kind ≡ true) × (allShaped (now list) ≡ true) × (ascending (now list) ≡ true) × (mostOctets ≤ length (now out)) ⌝ }
+    requires { ⌜ (revision ≤ 15) × (known kind ≡ true) × (allShaped (now list) ≡ true) × (ascending (now list) ≡ true) × (allParented (now list) (now list) ≡ true) × (mostOctets ≤ length (now out)) ⌝ }
     ensures { λ r. ⌜ Writes (checkedWriting kind revision (now (list .entry)) (now (ns .entry))) (now (out .entry)) r (now (out .exit)) ⌝ }
 {
     if !ends_there(kind, list, ns) {

@@ -6,10 +6,9 @@ use mathlib.Core.List.{List}
 use mathlib.Core.Path.{_≡_, refl}
 use borrow.Author.Tests.{not-true, not-false}
 use borrow.Author.Needs.{needs}
-use Rattle.octets.specs.Places.{pick}
+use Rattle.octets.specs.Places.{pick, both}
 use Rattle.tree.specs.Fields.{codesIn}
 use Rattle.tree.specs.declared.Field.the-variants.{Standard}
-use Rattle.writer.specs.Minimal.{both}
 use Rattle.choice.specs.Wishes.{standardCodes}
 use Rattle.choice.specs.Choosing.{common, suits}
 use Rattle.choice.specs.Inner.{farTold, wish}

@@ -31,10 +31,10 @@ fill-fours-requires c κs = search needs
 
 -- where there is no room the numbers are not stored
 stored : (c : tie.Joined2) → let a = c .before .before .before .before .args in
-    c .if2 .list ≡ sets (a .list .now) (a .n) (setBits (a .w) (a .above) (a .octet))
+    c .if2 .list ≡ sets (a .list .now) (a .n) (setBits 7 (a .above) (a .octet))
 stored c =
     let a = c .before .before .before .before .args in
-    ⊎-elim (λ w. w .5 ∙ w .2 .ensures .1) (λ w. w .1 ∙ sym (sets-out _ _ (setBits (a .w) (a .above) (a .octet)) (w .0 .left))) (c .if2 .came)
+    ⊎-elim (λ w. w .5 ∙ w .2 .ensures .1) (λ w. w .1 ∙ sym (sets-out _ _ (setBits 7 (a .above) (a .octet)) (w .0 .left))) (c .if2 .came)
 
 same-length-2 : tie.Need-same-length-2
 same-length-2 c = ap length (stored (c .before .before .before .before)) ∙ simp length-sets

@@ -1,6 +1,5 @@
 -- `fill::fill_field` meets its contract: NPar(1), and behind it the SPar(1) block with its Par(2) blocks, are stored.
 -- Assumes nothing.
-use mathlib.Core.Path.{refl}
 use native.Mathlib.Omega.{arith}
 use borrow.Author.Needs.{needs}
 use Rattle.fill.proofs.Positions.{field-room-one, field-room-two, field-stores}
@@ -10,7 +9,7 @@ use Rattle.fill.proofs.fill_field.Tie as tie
 fill-block-requires : tie.Need-fill-block-requires
 fill-block-requires c κs =
     let s = c .before .before .before .before .before in
-    (refl, omega arith, s .pre .0, omega (arith, s .pre .1), field-room-one (s .args .base) (s .args .s .now) (s .args .at) (s .pre .0))
+    (omega arith, s .pre .0, omega (arith, s .pre .1), field-room-one (s .args .base) (s .args .s .now) (s .args .at) (s .args .n) (s .pre .0) (s .pre .2))
 
 top-behind-requires : tie.Need-top-behind-requires
 top-behind-requires c κs = search needs
@@ -20,7 +19,7 @@ fill-pars-requires c κs =
     let e = c .before .before in
     let b = e .before .before .before .before .before in
     let s = b .before .before .before .before .before .before in
-    (s .pre .0, s .pre .1, field-room-two (s .args .base) (s .args .s .now) (s .args .at) (b .fill-block .ensures) (e .top-behind .ensures) (s .pre .0))
+    (s .pre .0, s .pre .1, field-room-two (s .args .base) (s .args .s .now) (s .args .at) (s .args .n) (b .fill-block .ensures) (e .top-behind .ensures) (s .pre .0) (s .pre .2))
 
 same-length : tie.Need-same-length
 same-length c = search needs
@@ -34,7 +33,7 @@ returns c =
     let e = f .before .before .before in
     let b = e .before .before .before .before .before in
     let a = b .before .before .before .before .before .before .args in
-    field-stores (a .base) (a .s .now) (a .at) (b .fill-block .ensures) (e .top-behind .ensures) (f .fill-pars .ensures)
+    field-stores (a .base) (a .s .now) (a .at) (a .n) (b .fill-block .ensures) (e .top-behind .ensures) (f .fill-pars .ensures)
 
 pub fill-field-spec : {M : Type 1} → statement M
 fill-field-spec =

@@ -5,31 +5,29 @@ use mathlib.Core.List.{[]}
 use mathlib.Core.Path.{refl}
 use native.Mathlib.Omega.{arith}
 use lib.Count.{trailingZeros}
-use Rattle.fill.proofs.Positions.{codes-stepped, BitsGoing, bits-start, bits-end, bits-reach, bits-less, bits-turn, codes-room}
+use Rattle.fill.specs.Storing.{mostCodes}
+use Rattle.fill.proofs.Positions.{codes-stepped, BitsGoing, bits-start, bits-end, bits-reach, bits-less, bits-room, bits-turn}
 use Rattle.fill.proofs.Stored.{stores-one, octets-size}
 use Rattle.fill.proofs.fill_fours.Statement.{statement}
 use Rattle.fill.proofs.fill_fours.Tie as tie
 
 abbrev Inv-loop : tie.InvT-loop
-Inv-loop octet w above list₀ n bits₀ code₀ count₀ list bits code count =
-    BitsGoing (λ qs e. qs) (λ k e. e) w above octet (record { count = n; at = 0 }) [] list₀ [] list (record { count = count; at = 0 }) bits code
+Inv-loop octet above list₀ n bits₀ code₀ count₀ list bits code count =
+    BitsGoing (λ qs e. qs) (λ k e. e) above octet (record { count = n; at = 0 }) [] list₀ [] list (record { count = count; at = 0 }) bits code
 
 abbrev μ-loop : tie.MeasureT-loop
-μ-loop octet w above list₀ n bits₀ code₀ count₀ list bits code count = bits
+μ-loop octet above list₀ n bits₀ code₀ count₀ list bits code count = bits
 
 loop-holds : tie.Need-loop-holds Inv-loop μ-loop
 loop-holds c = bits-start codes-stepped _ _ _ (c .before .pre .0)
 
 -- the lowest bit that is left is a code, and there is room to count it
 reach : (c : tie.In-loop Inv-loop μ-loop) → let l = c .before .loop in let a = c .before .before .before .args in
-    l .code + (trailingZeros 8 (l .bits) + 1) ≤ a .above + a .w
-reach c = bits-reach codes-stepped (c .before .loop .inv) (c .before .before .before .pre .1) (c .loop-test .taken)
+    l .code + (trailingZeros 32 (l .bits) + 1) ≤ a .above + 7
+reach c = bits-reach codes-stepped (c .before .loop .inv) (c .loop-test .taken)
 
-room : (c : tie.In-loop Inv-loop μ-loop) → c .before .loop .count + 1 ≤ c .before .before .before .args .n + 7
-room c = codes-room (c .before .loop .inv) (c .before .before .before .pre .1) (c .loop-test .taken)
-
-cast-bits : tie.Need-cast-bits Inv-loop μ-loop
-cast-bits c = omega (arith, reach c)
+room : (c : tie.In-loop Inv-loop μ-loop) → c .before .loop .count + 1 ≤ mostCodes
+room c = bits-room codes-stepped (c .before .loop .inv) (c .loop-test .taken) (c .before .before .before .pre .2)
 
 shr-bits : tie.Need-shr-bits Inv-loop μ-loop
 shr-bits c = omega (arith, reach c)
@@ -52,7 +50,7 @@ add-count c = omega (arith, room (c .before .before .before .before))
 loop-less : tie.Need-loop-less Inv-loop μ-loop
 loop-less c =
     let t = c .before .before .before .before in
-    bits-less codes-stepped (t .before .loop .inv) (t .before .before .before .pre .1) (t .loop-test .taken)
+    bits-less codes-stepped (t .before .loop .inv) (t .loop-test .taken)
 
 loop-again : tie.Need-loop-again Inv-loop μ-loop
 loop-again c =
@@ -61,7 +59,6 @@ loop-again c =
     bits-turn
     codes-stepped
     (t .before .loop .inv)
-    (t .before .before .before .pre .1)
     (t .loop-test .taken)
     (record { stores = stores-one refl (f .put-four .ensures); at = refl })
 
@@ -78,7 +75,6 @@ fill-fours-spec =
     Inv-loop
     μ-loop
     loop-holds
-    cast-bits
     shr-bits
     add-code
     add-code-2

@@ -1,99 +1,88 @@
--- `fill::fill_subs_of` meets its contract. The loop's invariant (`BitsGoing`): the codes of all bits but those left are stored. The measure is the bits left, as a number.
+-- `fill::fill_subs_of` meets its contract. The loop's invariant (`BitsGoing`, at the position that the code stands above): the codes of all bits but those left are stored. The measure is the bits left, as a number.
 -- Assumes nothing.
-use Prim.Native.Nat.{_+_, _*_, _≤_}
+use Prim.Native.Nat.{ℕ, _+_, _*_, _≤_}
 use mathlib.Core.List.{_∷_}
-use mathlib.Core.Path.{refl}
 use native.Mathlib.Omega.{arith}
 use lib.Count.{trailingZeros}
 use lib.ListN.{length}
 use Rattle.tree.specs.Block.{numbers}
-use Rattle.tree.specs.Codes.{subCodes, subsBehind}
-use Rattle.fill.proofs.Positions.{subs-stepped, BitsGoing, bits-start, bits-end, bits-reach, bits-less, bits-room, bits-turn}
-use Rattle.fill.proofs.Stored.{stores-fills, list-size, octets-size}
+use Rattle.tree.specs.Codes.{ofT, subCodes, subsBehind}
+use Rattle.fill.specs.Storing.{mostCodes}
+use Rattle.fill.proofs.Positions.{subs, BitsGoing, Above, bits-start, bits-end, bits-reach, bits-less, code-room, code-turn}
+use Rattle.fill.proofs.Stored.{list-size, octets-size}
 use Rattle.fill.proofs.fill_subs_of.Statement.{statement}
 use Rattle.fill.proofs.fill_subs_of.Tie as tie
 
 abbrev Inv-loop : tie.InvT-loop
-Inv-loop s octet above c list₀ octets₀ bits₀ t₀ tally₀ list octets bits t tally =
-    BitsGoing (λ ts e. subCodes c ts s e) (λ k e. subsBehind k s e) 6 above octet tally₀ list₀ octets₀ list octets tally bits t
+Inv-loop s octet c list₀ octets₀ bits₀ code₀ tally₀ list octets bits code tally =
+    Above (BitsGoing (λ qs e. subCodes c qs s e) (λ k e. subsBehind k s e) 0 octet tally₀ list₀ octets₀ list octets tally bits) c ofT code
 
 abbrev μ-loop : tie.MeasureT-loop
-μ-loop s octet above c list₀ octets₀ bits₀ t₀ tally₀ list octets bits t tally = bits
+μ-loop s octet c list₀ octets₀ bits₀ code₀ tally₀ list octets bits code tally = bits
 
 loop-holds : tie.Need-loop-holds Inv-loop μ-loop
-loop-holds c = let s = c .before .before .before in bits-start (subs-stepped (s .args .c) (s .args .s .now)) _ _ _ (s .pre .0)
+loop-holds c =
+    let s = c .before .before .before in
+    record { p = 0; holds = bits-start (subs (s .args .s .now) .from (s .args .c)) _ _ _ (s .pre .0); here = omega arith }
 
 -- the lowest bit that is left is a position, and there is room to count its codes
-reach : (c : tie.In-loop Inv-loop μ-loop) → let l = c .before .loop in
-    l .t + (trailingZeros 8 (l .bits) + 1) ≤ c .before .before .before .before .before .args .above + 6
+reach : (c : tie.In-loop Inv-loop μ-loop) → let l = c .before .loop in l .inv .p + (trailingZeros 32 (l .bits) + 1) ≤ 7
 reach c =
     let s = c .before .before .before .before .before in
-    bits-reach (subs-stepped (s .args .c) (s .args .s .now)) (c .before .loop .inv) (omega arith) (c .loop-test .taken)
+    bits-reach (subs (s .args .s .now) .from (s .args .c)) (c .before .loop .inv .holds) (c .loop-test .taken)
 
-room : (c : tie.In-loop Inv-loop μ-loop) → let l = c .before .loop in let a = c .before .before .before .before .before .args in
-    let code = a .c + (l .t + (trailingZeros 8 (l .bits) + 1)) * 512 in
-    l .tally .count + length (code ∷ numbers 6 64 code (a .s .now) (l .tally .at)) ≤ 900000
-room c =
-    let s = c .before .before .before .before .before in
-    bits-room (subs-stepped (s .args .c) (s .args .s .now)) (c .before .loop .inv) (omega arith) (c .loop-test .taken) (s .pre .4)
+abbrev code : tie.In-loop Inv-loop μ-loop → ℕ
+code c = c .before .loop .code + (trailingZeros 32 (c .before .loop .bits) + 1) * ofT
 
-cast-bits : tie.Need-cast-bits Inv-loop μ-loop
-cast-bits c = omega (arith, reach c)
+room : (c : tie.In-loop Inv-loop μ-loop) → let l = c .before .loop in let s = c .before .before .before .before .before .args .s .now in
+    l .tally .count + length (code c ∷ numbers 6 64 (code c) s (l .tally .at)) ≤ mostCodes
+room c = let s = c .before .before .before .before .before in code-room (subs (s .args .s .now)) (c .before .loop .inv) (c .loop-test .taken) (s .pre .3)
+
+-- the code is small
+small : (c : tie.In-loop Inv-loop μ-loop) → code c ≤ c .before .before .before .before .before .args .c + 7 * ofT
+small c = omega (arith, reach c, c .before .loop .inv .here)
 
 shr-bits : tie.Need-shr-bits Inv-loop μ-loop
 shr-bits c = omega (arith, reach c)
 
-add-t : tie.Need-add-t Inv-loop μ-loop
-add-t c = omega (arith, reach c)
-
-add-t-2 : tie.Need-add-t-2 Inv-loop μ-loop
-add-t-2 c = omega (arith, reach c)
+add-code : tie.Need-add-code Inv-loop μ-loop
+add-code c = omega (arith, reach c)
 
 mul-code : tie.Need-mul-code Inv-loop μ-loop
 mul-code c = omega (arith, reach c)
 
-add-code : tie.Need-add-code Inv-loop μ-loop
-add-code c = omega (arith, reach c)
+add-code-2 : tie.Need-add-code-2 Inv-loop μ-loop
+add-code-2 c = omega (arith, small c)
 
-fill-one-requires : tie.Need-fill-one-requires Inv-loop μ-loop
-fill-one-requires c κs = omega (arith, room (c .before .before))
-
-fill-block-requires : tie.Need-fill-block-requires Inv-loop μ-loop
-fill-block-requires c κs =
-    let f = c .before .before .before .before .before .before in
-    let t = f .before .before .before in
+fill-unit-requires : tie.Need-fill-unit-requires Inv-loop μ-loop
+fill-unit-requires c κs =
+    let t = c .before .before in
     let p = t .before .before .before .before .before .pre in
-    (refl, omega arith, p .1, omega (arith, reach t, p .2, p .3), omega (arith, room t, f .fill-one .ensures .count))
+    (p .1, omega arith, omega (arith, small t, p .2), room t)
 
 loop-less : tie.Need-loop-less Inv-loop μ-loop
 loop-less c =
-    let t = c .before .before .before .before .before .before .before .before .before .before .before .before .before .before in
+    let t = c .before .before .before .before .before .before .before in
     let s = t .before .before .before .before .before in
-    bits-less (subs-stepped (s .args .c) (s .args .s .now)) (t .before .loop .inv) (omega arith) (t .loop-test .taken)
+    bits-less (subs (s .args .s .now) .from (s .args .c)) (t .before .loop .inv .holds) (t .loop-test .taken)
 
 loop-again : tie.Need-loop-again Inv-loop μ-loop
 loop-again c =
-    let b = c .before .before .before .before in
-    let f = b .before .before .before .before .before .before .before in
+    let f = c .before .before .before .before in
     let t = f .before .before .before in
     let s = t .before .before .before .before .before in
-    bits-turn
-    (subs-stepped (s .args .c) (s .args .s .now))
-    (t .before .loop .inv)
-    (omega arith)
-    (t .loop-test .taken)
-    (stores-fills (f .fill-one .ensures) (b .fill-block .ensures))
+    code-turn (subs (s .args .s .now)) (t .before .loop .inv) (t .loop-test .taken) (f .fill-unit .ensures)
 
 same-length : tie.Need-same-length Inv-loop μ-loop
-same-length c = list-size (c .before .loop .inv .going .fills .stores)
+same-length c = list-size (c .before .loop .inv .holds .going .fills .stores)
 
 same-length-2 : tie.Need-same-length-2 Inv-loop μ-loop
-same-length-2 c = octets-size (c .before .loop .inv .going .fills .stores)
+same-length-2 c = octets-size (c .before .loop .inv .holds .going .fills .stores)
 
 returns : tie.Need-returns Inv-loop μ-loop
 returns c =
     let s = c .before .before .before .before .before in
-    bits-end (subs-stepped (s .args .c) (s .args .s .now)) (c .before .loop .inv) (c .loop-test .left)
+    bits-end (subs (s .args .s .now) .from (s .args .c)) (c .before .loop .inv .holds) (c .loop-test .left)
 
 pub fill-subs-of-spec : {M : Type 1} → statement M
 fill-subs-of-spec =
@@ -102,14 +91,11 @@ fill-subs-of-spec =
     Inv-loop
     μ-loop
     loop-holds
-    cast-bits
     shr-bits
-    add-t
-    add-t-2
-    mul-code
     add-code
-    fill-one-requires
-    fill-block-requires
+    mul-code
+    add-code-2
+    fill-unit-requires
     loop-less
     loop-again
     same-length

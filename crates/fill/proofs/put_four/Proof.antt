@@ -51,17 +51,11 @@ returns : tie.Need-returns
 unfolding fours
 returns c = simp towards-suc
 
-cast-put-octet : tie.Need-cast-put-octet
-cast-put-octet c = search needs
-
 put-octet-requires : tie.Need-put-octet-requires
 put-octet-requires c κs = search needs
 
 add-put-octet : tie.Need-add-put-octet
 add-put-octet c = search needs
-
-cast-put-octet-2 : tie.Need-cast-put-octet-2
-cast-put-octet-2 c = search needs
 
 put-octet-requires-2 : tie.Need-put-octet-requires-2
 put-octet-requires-2 c κs = search needs
@@ -69,17 +63,11 @@ put-octet-requires-2 c κs = search needs
 add-put-octet-2 : tie.Need-add-put-octet-2
 add-put-octet-2 c = search needs
 
-cast-put-octet-3 : tie.Need-cast-put-octet-3
-cast-put-octet-3 c = search needs
-
 put-octet-requires-3 : tie.Need-put-octet-requires-3
 put-octet-requires-3 c κs = search needs
 
 add-put-octet-3 : tie.Need-add-put-octet-3
 add-put-octet-3 c = search needs
-
-cast-put-octet-4 : tie.Need-cast-put-octet-4
-cast-put-octet-4 c = search needs
 
 put-octet-requires-4 : tie.Need-put-octet-requires-4
 put-octet-requires-4 c κs = search needs
@@ -116,16 +104,12 @@ put-four-spec =
     slice-write-list-4
     same-length
     returns
-    cast-put-octet
     put-octet-requires
     add-put-octet
-    cast-put-octet-2
     put-octet-requires-2
     add-put-octet-2
-    cast-put-octet-3
     put-octet-requires-3
     add-put-octet-3
-    cast-put-octet-4
     put-octet-requires-4
     same-length-2
     returns-2)

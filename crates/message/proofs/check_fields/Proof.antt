@@ -1,32 +1,69 @@
--- `message::check_fields` meets its contract: the form decides.
+-- `message::check_fields` meets its contract: I, then S, then what is behind S decides.
 -- Assumes nothing.
 use mathlib.Core.Path.{sym, _∙_}
 use borrow.Author.Needs.{needs}
 use borrow.Author.Tests.{not-true, not-false}
-use Rattle.message.proofs.Checking.{broken-found, fine-found}
+use Rattle.message.proofs.Checking.{first-broken, first-fits, second-broken, tail-broken, all-fine}
 use Rattle.message.proofs.check_fields.Statement.{statement}
 use Rattle.message.proofs.check_fields.Tie as tie
 
-fields-form-requires : tie.Need-fields-form-requires
-fields-form-requires c κs = search needs
+field-end-requires : tie.Need-field-end-requires
+field-end-requires c κs = search needs
+
+returns : tie.Need-returns
+returns c =
+    let f = c .before in
+    let s = f .before .before in
+    first-broken (s .args .s .now) (s .pre) (f .field-end .ensures) (c .if1 .taken)
+
+field-end-requires-2 : tie.Need-field-end-requires-2
+field-end-requires-2 c κs = search needs
+
+returns-2 : tie.Need-returns-2
+returns-2 c =
+    let e = c .before .before in
+    let s = e .before .before .before in
+    second-broken (s .args .s .now) (s .pre) (e .before .field-end .ensures) (e .if1 .left) (c .before .field-end2 .ensures) (c .if2 .taken)
+
+tail-form-requires : tie.Need-tail-form-requires
+tail-form-requires c κs =
+    let e = c .before .before in
+    let s = e .before .before .before in
+    first-fits (s .args .s .now) (s .pre) (e .before .field-end .ensures) (e .if1 .left)
 
 is-fine-requires : tie.Need-is-fine-requires
 is-fine-requires c κs = search needs
 
-returns : tie.Need-returns
-returns c =
-    let b = c .before in
-    broken-found _ (b .before .before .before .pre) _ (b .before .fields-form .ensures) (sym (b .is-fine .ensures) ∙ not-true _ (c .if1 .taken))
+returns-3 : tie.Need-returns-3
+returns-3 c =
+    let g = c .before .before .before in
+    let e = g .before .before in
+    let s = e .before .before .before in
+    tail-broken (s .args .s .now) (s .pre) (e .before .field-end .ensures) (e .if1 .left) (g .before .field-end2 .ensures) (g .if2 .left) (c .before .before .tail-form .ensures)
+    (sym (c .before .is-fine .ensures) ∙ not-true _ (c .if3 .taken))
 
-shared-slice-read-t7 : tie.Need-shared-slice-read-t7
-shared-slice-read-t7 c = search needs
+shared-slice-read-t8 : tie.Need-shared-slice-read-t8
+shared-slice-read-t8 c = search needs
 
-returns-2 : tie.Need-returns-2
-returns-2 c =
-    let b = c .before .before in
-    fine-found _ (b .before .before .before .pre) _ (b .before .fields-form .ensures) (sym (b .is-fine .ensures) ∙ not-false _ (c .before .if1 .left))
+returns-4 : tie.Need-returns-4
+returns-4 c =
+    let i = c .before .before in
+    let g = i .before .before in
+    let e = g .before .before in
+    let s = e .before .before .before in
+    all-fine (s .args .s .now) (s .pre) (e .before .field-end .ensures) (e .if1 .left) (g .before .field-end2 .ensures) (g .if2 .left) (i .before .tail-form .ensures)
+    (sym (i .is-fine .ensures) ∙ not-false _ (c .before .if3 .left))
 
 pub check-fields-spec : {M : Type 1} → statement M
 check-fields-spec =
     tie.close
-    (tie.spec fields-form-requires is-fine-requires returns shared-slice-read-t7 returns-2)
+    (tie.spec
+    field-end-requires
+    returns
+    field-end-requires-2
+    returns-2
+    tail-form-requires
+    is-fine-requires
+    returns-3
+    shared-slice-read-t8
+    returns-4)

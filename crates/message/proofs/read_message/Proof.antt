@@ -1,71 +1,22 @@
--- `message::read_message` meets its contract: a list that is large enough leaves the answer to what the message is found to be.
+-- `message::read_message` meets its contract: the list of numbers has room for all codes.
 -- Assumes nothing.
-use mathlib.Core.Path.{refl, _∙_}
-use native.Mathlib.Omega.{arith}
 use borrow.Author.Needs.{needs}
-use Rattle.message.specs.declared.MessageRead.the-variants.{SmallList, BadSize, UnknownType, Malformed}
-use Rattle.message.proofs.Checked.{size-refused, type-refused, form-refused}
-use Rattle.message.proofs.Reading.{refuses, no-room, room-enough}
+use Rattle.message.proofs.Parting.{numbers-read}
 use Rattle.message.proofs.read_message.Statement.{statement}
 use Rattle.message.proofs.read_message.Tie as tie
 
-returns : tie.Need-returns
-returns c = refuses _ _ 1 SmallList (no-room _ _ (c .if1 .taken)) refl
+slice-aggregate-read-both : tie.Need-slice-aggregate-read-both
+slice-aggregate-read-both c = search needs
 
-check-message-requires : tie.Need-check-message-requires
-check-message-requires c κs = search needs
-
-enum-known-parts : tie.Need-enum-known-parts
-enum-known-parts c = search needs
-
-read-parts-requires : tie.Need-read-parts-requires
-read-parts-requires c κs =
-    let p = c .before .before in
-    (rw (p .parts .given .1) at (p .before .before .check-message .ensures), omega arith)
-
-enum-told : tie.Need-enum-told
-enum-told c = search needs
-
-enum-told-2 : tie.Need-enum-told-2
-enum-told-2 c = search needs
-
-enum-told-3 : tie.Need-enum-told-3
-enum-told-3 c = search needs
+read-both-requires : tie.Need-read-both-requires
+read-both-requires c κs = search needs
 
 same-length : tie.Need-same-length
 same-length c = search needs
 
-returns-2 : tie.Need-returns-2
-returns-2 c = search needs
-
-returns-3 : tie.Need-returns-3
-returns-3 c =
-    let b = c .before .before in
-    refuses _ _ 2 BadSize (room-enough _ _ (b .before .if1 .left) ∙ size-refused _ (rw (c .enum-told .given .1) at (b .check-message .ensures))) refl
-
-returns-4 : tie.Need-returns-4
-returns-4 c =
-    let b = c .before .before in
-    refuses _ _ 3 UnknownType (room-enough _ _ (b .before .if1 .left) ∙ type-refused _ (rw (c .enum-told2 .given .1) at (b .check-message .ensures))) refl
-
-returns-5 : tie.Need-returns-5
-returns-5 c =
-    let b = c .before .before in
-    refuses _ _ 4 Malformed (room-enough _ _ (b .before .if1 .left) ∙ form-refused _ (rw (c .enum-told3 .given .1) at (b .check-message .ensures))) refl
+returns : tie.Need-returns
+returns c = numbers-read (c .before .before .before .read-both .ensures)
 
 pub read-message-spec : {M : Type 1} → statement M
 read-message-spec =
-    tie.close
-    (tie.spec
-    returns
-    check-message-requires
-    enum-known-parts
-    read-parts-requires
-    enum-told
-    enum-told-2
-    enum-told-3
-    same-length
-    returns-2
-    returns-3
-    returns-4
-    returns-5)
+    tie.close (tie.spec slice-aggregate-read-both read-both-requires same-length returns)

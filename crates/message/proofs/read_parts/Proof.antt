@@ -1,84 +1,58 @@
--- `message::read_parts` meets its contract: the codes of S are laid behind those of I, for all of which there is room.
+-- `message::read_parts` meets its contract: a message with fields has their codes.
 -- Assumes nothing.
-use Prim.Native.Nat.{_≤_}
-use mathlib.Core.Path.{refl}
-use native.Mathlib.Omega.{arith}
+use mathlib.Core.Bool.{true}
+use mathlib.Core.Path.{_≡_, sym, _∙_}
 use borrow.Author.Needs.{needs}
-use lib.ListN.{length}
+use borrow.Author.Tests.{not-true, not-false}
+use Rattle.message.specs.Kinds.{hasFields}
 use Rattle.message.proofs.Checked.{some-octet}
-use Rattle.message.proofs.Parting.{read-one, tail-fits, counts-fit, read-both}
+use Rattle.message.proofs.Parting.{read-one, tail-fits, read-both}
 use Rattle.message.proofs.read_parts.Statement.{statement}
 use Rattle.message.proofs.read_parts.Tie as tie
 
--- the codes of I are few, and the list is as long as it was
-few : (c : tie.After-fill-codes) → (c .fill-codes .result ≤ 448) × (c .fill-codes .result ≤ length (c .fill-codes .last .1 .1 .1 .0))
-few c =
-    let e = c .before .before in
-    let a = e .before .before .before .before in
-    omega (arith, counts-fit _ (a .args .list .now) _ (a .pre) (e .if1 .left) _ _ (c .fill-codes .ensures .0) refl, c .fill-codes .kept .1 .1 .1 .0)
+-- behind the test it has fields
+fields : (c : tie.Else1) → hasFields (c .before .before .before .before .before .before .args .parts .kind) ≡ true
+fields c = sym (c .before .has-fields .ensures) ∙ not-false _ (c .if1 .left)
 
 shared-slice-read-revision : tie.Need-shared-slice-read-revision
-shared-slice-read-revision c = some-octet _ _ (c .before .before .before .pre .0)
+shared-slice-read-revision c = some-octet _ _ (c .before .before .before .before .pre)
+
+has-fields-requires : tie.Need-has-fields-requires
+has-fields-requires c κs = search needs
 
 returns : tie.Need-returns
-returns c = read-one _ _ _ (c .before .before .before .before .pre) (c .if1 .taken)
+returns c = read-one _ _ (c .before .before .before .before .before .before .pre) _ _ (sym (c .before .has-fields .ensures) ∙ not-true _ (c .if1 .taken))
 
-fill-codes-requires : tie.Need-fill-codes-requires
-fill-codes-requires c κs = search needs
-
-mul-fill-codes : tie.Need-mul-fill-codes
-mul-fill-codes c = omega (arith, few (c .before .before))
-
-sub-fill-codes : tie.Need-sub-fill-codes
-sub-fill-codes c = few (c .before .before) .1
-
-part-fill-codes-start : tie.Need-part-fill-codes-start
-part-fill-codes-start c = few (c .before .before) .1
-
-part-fill-codes-end : tie.Need-part-fill-codes-end
-part-fill-codes-end c = search needs
-
-fill-codes-requires-2 : tie.Need-fill-codes-requires-2
-fill-codes-requires-2 c κs = search needs
+fill-fields-requires : tie.Need-fill-fields-requires
+fill-fields-requires c κs = search needs
 
 ns-span-requires : tie.Need-ns-span-requires
 ns-span-requires c κs =
-    let e = c .before .before .before .before .before .before .before .before in
-    let a = e .before .before .before .before in
-    tail-fits _ (a .args .list .now) _ (a .pre) (e .if1 .left)
-
-add-t17 : tie.Need-add-t17
-add-t17 c =
-    let two = c .before .before .before in
-    let one = two .before .before .before .before in
-    let e = one .before .before in
-    let a = e .before .before .before .before in
-    omega (arith, counts-fit _ (a .args .list .now) _ (a .pre) (e .if1 .left) _ _ (one .fill-codes .ensures .0) (two .fill-codes2 .ensures .0))
+    let e = c .before .before .before .before .before .before .before in
+    let a = e .before .before .before .before .before .before in
+    tail-fits _ _ (a .pre) (a .args .list .now) (a .args .octets .now) (fields e)
 
 same-length : tie.Need-same-length
 same-length c = search needs
 
+same-length-2 : tie.Need-same-length-2
+same-length-2 c = search needs
+
 returns-2 : tie.Need-returns-2
 returns-2 c =
-    let two = c .before .before .before in
-    let one = two .before .before .before .before in
-    let e = one .before .before in
-    read-both _ _ _ (e .before .before .before .before .pre) (e .if1 .left) _ _ (one .fill-codes .ensures .0) (two .fill-codes2 .ensures .0)
-    _ _ _ (one .fill-codes .ensures .1) (two .fill-codes2 .ensures .1) (c .ns-span .ensures)
+    let f = c .before .before .before .before .before in
+    let e = f .before .before .before in
+    read-both _ _ (e .before .before .before .before .before .before .pre) _ _ (fields e) _ _ _ _ (f .fill-fields .ensures) (c .ns-span .ensures)
 
 pub read-parts-spec : {M : Type 1} → statement M
 read-parts-spec =
     tie.close
     (tie.spec
     shared-slice-read-revision
+    has-fields-requires
     returns
-    fill-codes-requires
-    mul-fill-codes
-    sub-fill-codes
-    part-fill-codes-start
-    part-fill-codes-end
-    fill-codes-requires-2
+    fill-fields-requires
     ns-span-requires
-    add-t17
     same-length
+    same-length-2
     returns-2)

@@ -3,9 +3,10 @@
 use Prim.Native.Nat.{ℕ, _-_, _/_, _%_, _≤_}
 use mathlib.Core.Path.{refl}
 use native.Mathlib.Omega.{arith}
+use borrow.Author.Needs.{needs}
 use borrow.Author.Tests.{ne-eqb}
 use lib.Dec.{eqb}
-use Rattle.tree.specs.Codes.{codeOf}
+use Rattle.tree.specs.Codes.{codeOf, ofS}
 use Rattle.names.specs.Tables.{nparBlocks}
 use Rattle.names.specs.Named.{rowsUnder}
 use Rattle.names.specs.Inner.{isNonStandard}
@@ -16,17 +17,20 @@ use Rattle.names.proofs.non_standards.Statement.{statement}
 use Rattle.names.proofs.non_standards.Tie as tie
 
 -- a group of S from 9 on
-in-high : (c : ℕ) → 1024 ≤ c / 262144 → 9 ≤ c / 262144 - 1024 → codeOf 2 9 0 0 ≤ c
+in-high : (c : ℕ) → 1024 ≤ c / ofS → 9 ≤ c / ofS - 1024 → codeOf 2 9 0 0 ≤ c
 in-high c h k = omega arith
 
 returns : tie.Need-returns
 unfolding every maskOf
 returns c =
-    mask-zero isNonStandard (λ x. eqb (x % 262144) 0) nparBlocks (c .before .args .under) refl (ne-eqb _ _ (c .if1 .taken))
+    mask-zero isNonStandard (λ x. eqb (x % ofS) 0) nparBlocks (c .before .args .under) refl (ne-eqb _ _ (c .if1 .taken))
 
 returns-2 : tie.Need-returns-2
 unfolding maskOf rowsUnder
 returns-2 c = mask-at isNonStandard nparBlocks (c .before .before .args .under) (codeOf 1 0 0 0) _ (omega arith) refl
+
+add-if3 : tie.Need-add-if3
+add-if3 c = search needs
 
 returns-3 : tie.Need-returns-3
 unfolding maskOf rowsUnder
@@ -75,7 +79,7 @@ returns-14 : tie.Need-returns-14
 unfolding every maskOf Missed
 returns-14 c =
     let under = c .before .before .before .before .before .args .under in
-    mask-high isNonStandard (codeOf 2 9 0 0) under refl (in-high under (c .before .if4 .left) (missed (under / 262144 - 1024) 9 (c .match .rest)))
+    mask-high isNonStandard (codeOf 2 9 0 0) under refl (in-high under (c .before .if4 .left) (missed (under / ofS - 1024) 9 (c .match .rest)))
 
 pub non-standards-spec : {M : Type 1} → statement M
 non-standards-spec =
@@ -83,6 +87,7 @@ non-standards-spec =
     (tie.spec
     returns
     returns-2
+    add-if3
     returns-3
     returns-4
     returns-5

@@ -8,7 +8,7 @@ use borrow.Author.Needs.{needs}
 use borrow.Author.Tests.{eq-eqb, ne-eqb}
 use lib.Dec.{eqb}
 use Rattle.octets.specs.Places.{pick}
-use Rattle.tree.specs.Codes.{codeOf}
+use Rattle.tree.specs.Codes.{codeOf, ofS}
 use Rattle.names.specs.Tables.{nparBlocks}
 use Rattle.names.specs.Named.{rowsUnder, isNamed}
 use Rattle.names.specs.Masks.{maskOf}
@@ -33,18 +33,21 @@ returns-2 c = mask-at isNamed nparBlocks (c .before .before .before .args .under
 returns-3 : tie.Need-returns-3
 unfolding every maskOf
 returns-3 c =
-    mask-zero isNamed (λ x. pick (eqb (x % 262144) 512) (pick (eqb (x / 262144) 1027) true (eqb (x / 262144) 1032)) true) nparBlocks (c .before .before .before .args .under) refl
+    mask-zero isNamed (λ x. pick (eqb (x % ofS) 512) (pick (eqb (x / ofS) 1027) true (eqb (x / ofS) 1032)) true) nparBlocks (c .before .before .before .args .under) refl
     (rw (eq-eqb _ _ (c .before .before .if1 .taken), ne-eqb _ _ (c .before .if2 .left), ne-eqb _ _ (c .if3 .left)))
 
 returns-4 : tie.Need-returns-4
 unfolding every maskOf
 returns-4 c =
-    mask-zero isNamed (λ x. pick (eqb (x % 262144) 512) true (eqb (x % 262144) 0)) nparBlocks (c .before .before .args .under) refl
+    mask-zero isNamed (λ x. pick (eqb (x % ofS) 512) true (eqb (x % ofS) 0)) nparBlocks (c .before .before .args .under) refl
     (rw (ne-eqb _ _ (c .before .if1 .left), ne-eqb _ _ (c .if4 .taken)))
 
 returns-5 : tie.Need-returns-5
 unfolding maskOf rowsUnder
 returns-5 c = mask-at isNamed nparBlocks (c .before .before .before .args .under) (codeOf 1 0 0 0) _ (omega arith) refl
+
+add-if6 : tie.Need-add-if6
+add-if6 c = search needs
 
 returns-6 : tie.Need-returns-6
 unfolding maskOf rowsUnder
@@ -59,7 +62,7 @@ standard-names-requires c κs = search needs
 returns-8 : tie.Need-returns-8
 returns-8 c =
     let under = c .before .before .before .before .before .before .args .under in
-    mask-at isNamed nparBlocks under (codeOf 2 (under / 262144 - 1024) 0 0) _ (omega arith) (c .standard-names .ensures)
+    mask-at isNamed nparBlocks under (codeOf 2 (under / ofS - 1024) 0 0) _ (omega arith) (c .standard-names .ensures)
 
 pub npar-names-spec : {M : Type 1} → statement M
 npar-names-spec =
@@ -72,6 +75,7 @@ npar-names-spec =
     returns-3
     returns-4
     returns-5
+    add-if6
     returns-6
     returns-7
     standard-names-requires

@@ -15,35 +15,29 @@ use Rattle.names.proofs.Blocks.{every, mask-at, mask-zero}
 use Rattle.names.proofs.spar_names.Statement.{statement}
 use Rattle.names.proofs.spar_names.Tie as tie
 
-mul-if1 : tie.Need-mul-if1
-mul-if1 c = search needs
-
 returns : tie.Need-returns
 unfolding maskOf rowsUnder
 returns c = mask-at isNamed sparBlocks (c .before .args .under) (codeOf 1 0 0 0) _ (omega arith) refl
-
-mul-if2 : tie.Need-mul-if2
-mul-if2 c = search needs
 
 returns-2 : tie.Need-returns-2
 unfolding maskOf rowsUnder
 returns-2 c = mask-at isNamed sparBlocks (c .before .before .args .under) (codeOf 2 0 0 0) _ (omega arith) refl
 
-add-if3 : tie.Need-add-if3
-add-if3 c = search needs
-
 mul-if3 : tie.Need-mul-if3
 mul-if3 c = search needs
+
+add-if3 : tie.Need-add-if3
+add-if3 c = search needs
 
 returns-3 : tie.Need-returns-3
 unfolding maskOf rowsUnder
 returns-3 c = mask-at isNamed sparBlocks (c .before .before .before .args .under) (codeOf 2 3 0 0) _ (omega arith) refl
 
-add-if4 : tie.Need-add-if4
-add-if4 c = search needs
-
 mul-if4 : tie.Need-mul-if4
 mul-if4 c = search needs
+
+add-if4 : tie.Need-add-if4
+add-if4 c = search needs
 
 returns-4 : tie.Need-returns-4
 unfolding maskOf rowsUnder
@@ -61,14 +55,12 @@ pub spar-names-spec : {M : Type 1} → statement M
 spar-names-spec =
     tie.close
     (tie.spec
-    mul-if1
     returns
-    mul-if2
     returns-2
-    add-if3
     mul-if3
+    add-if3
     returns-3
-    add-if4
     mul-if4
+    add-if4
     returns-4
     returns-5)

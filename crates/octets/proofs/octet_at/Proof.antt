@@ -1,8 +1,6 @@
--- `octets::octet_at` meets its contract: the two octets that it reads hold the eight bits (`octet-window`), and are below 256, so that the sum of them fits.
+-- `octets::octet_at` meets its contract: the two octets that it reads hold the eight bits (`octet-window`).
 -- Assumes nothing.
-use Prim.Native.Nat.{_+_, _/_}
 use mathlib.Core.Path.{sym}
-use native.Mathlib.Omega.{arith}
 use borrow.Author.Needs.{needs}
 use Rattle.octets.proofs.Window.{octet-window}
 use Rattle.octets.proofs.octet_at.Statement.{statement}
@@ -11,20 +9,23 @@ use Rattle.octets.proofs.octet_at.Tie as tie
 octet-or-zero-requires : tie.Need-octet-or-zero-requires
 octet-or-zero-requires c κs = search needs
 
+cast-low : tie.Need-cast-low
+cast-low c = search needs
+
 add-octet-or-zero : tie.Need-add-octet-or-zero
 add-octet-or-zero c = search needs
 
 octet-or-zero-requires-2 : tie.Need-octet-or-zero-requires-2
 octet-or-zero-requires-2 c κs = search needs
 
+cast-high : tie.Need-cast-high
+cast-high c = search needs
+
 mul-result : tie.Need-mul-result
-mul-result c = omega (arith, c .before .before .shared-slice-known .given (c .before .before .before .args .at / 8 + 1))
+mul-result c = search needs
 
 add-result : tie.Need-add-result
-add-result c =
-    let octet = c .before .before .shared-slice-known .given in
-    let i = c .before .before .before .args .at / 8 in
-    omega (arith, octet i, octet (i + 1))
+add-result c = search needs
 
 cast-result : tie.Need-cast-result
 cast-result c = search needs
@@ -45,8 +46,10 @@ octet-at-spec =
     tie.close
     (tie.spec
     octet-or-zero-requires
+    cast-low
     add-octet-or-zero
     octet-or-zero-requires-2
+    cast-high
     mul-result
     add-result
     cast-result

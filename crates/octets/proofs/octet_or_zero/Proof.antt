@@ -1,7 +1,6 @@
--- `octets::octet_or_zero` meets its contract: an octet is below 256, so that it fits, and behind the end stands the default.
+-- `octets::octet_or_zero` meets its contract: behind the end stands the default.
 -- Assumes nothing.
 use mathlib.Core.Path.{sym}
-use native.Mathlib.Omega.{arith}
 use borrow.Author.Needs.{needs}
 use lib.ListN.{List·getD-eq-default}
 use Rattle.octets.proofs.octet_or_zero.Statement.{statement}
@@ -10,9 +9,6 @@ use Rattle.octets.proofs.octet_or_zero.Tie as tie
 shared-slice-read-result : tie.Need-shared-slice-read-result
 shared-slice-read-result c = search needs
 
-cast-result : tie.Need-cast-result
-cast-result c = omega (arith, c .shared-slice-known .given (c .before .before .args .i))
-
 returns : tie.Need-returns
 returns c = search needs
 
@@ -20,4 +16,4 @@ returns-2 : tie.Need-returns-2
 returns-2 c = sym (List·getD-eq-default (c .before .args .run .now) 0 (c .if1 .left))
 
 pub octet-or-zero-spec : {M : Type 1} → statement M
-octet-or-zero-spec = tie.close (tie.spec shared-slice-read-result cast-result returns returns-2)
+octet-or-zero-spec = tie.close (tie.spec shared-slice-read-result returns returns-2)

@@ -6,7 +6,7 @@ use Rattle.octets.proofs.Laying.{put-nil}
 use Rattle.tree.specs.Fields.{codesIn}
 use Rattle.tree.specs.declared.Field.the-variants.{Standard}
 use Rattle.message.specs.Reader.{standardAt}
-use Rattle.writer.specs.Writer.{messageOctets}
+use Rattle.meaning.specs.Writing.{messageOctets}
 use Rattle.choice.specs.Wishes.{wishesOf}
 use Rattle.choice.specs.Judging.{verdict, nakOf}
 use Rattle.choice.specs.declared.Verdict.{Verdict}

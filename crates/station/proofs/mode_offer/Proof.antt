@@ -3,7 +3,7 @@
 use mathlib.Core.Logic.{⊎-elim}
 use mathlib.Core.Path.{_≡_, refl}
 use mathlib.Core.Bool.{Bool, not}
-use Rattle.writer.specs.Minimal.{both}
+use Rattle.octets.specs.Places.{both}
 use Rattle.station.specs.Sending.{modeOffer}
 use Rattle.station.specs.declared.Offer.{Offer}
 use Rattle.station.proofs.Sendings.{anded, cut-short, mode-offered}

@@ -3,7 +3,7 @@
 use borrow.Author.Needs.{needs}
 use mathlib.Core.List.{[]}
 use mathlib.Core.Path.{refl, ap}
-use Rattle.writer.specs.Writer.{messageOctets}
+use Rattle.meaning.specs.Writing.{messageOctets}
 use Rattle.station.specs.Inner.{needsField}
 use Rattle.station.proofs.Saying.{did-bare, did-say, did-first}
 use Rattle.station.proofs.perform.Statement.{statement}

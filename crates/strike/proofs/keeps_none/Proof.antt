@@ -3,7 +3,8 @@
 use mathlib.Core.Path.{_∙_, ap}
 use native.Mathlib.Omega.{arith}
 use borrow.Author.Needs.{needs}
-use Rattle.strike.proofs.Sifting.{keptOctet, kept-only}
+use lib.Pow.{pow-pos}
+use Rattle.strike.proofs.Sifting.{keptOctet, kept-running}
 use Rattle.strike.proofs.Extents.{Framed, keeps-more, keeps-one}
 use Rattle.strike.proofs.keeps_none.Statement.{statement}
 use Rattle.strike.proofs.keeps_none.Tie as tie
@@ -19,21 +20,24 @@ returns c =
     let a = c .before .before .before .before in
     keeps-more (framed a) (a .args .places) (a .args .e) (omega (arith, c .before .before .block-extent .ensures .0))
 
+first-names-requires : tie.Need-first-names-requires
+first-names-requires c κs = search needs
+
 octet-or-zero-requires : tie.Need-octet-or-zero-requires
 octet-or-zero-requires c κs = search needs
 
 kept-bits-requires : tie.Need-kept-bits-requires
-kept-bits-requires c κs = search needs
+kept-bits-requires c κs = let a = c .before .before .before .before .before .before in omega (arith, a .pre .0, pow-pos (a .args .w))
 
 returns-2 : tie.Need-returns-2
 returns-2 c =
-    let a = c .before .before .before .before .before .before in
-    let k = kept-only (a .args .w) (a .args .m) (a .args .places) 0 (c .before .octet-or-zero .result) (c .kept-bits .result) (a .pre .0) (c .kept-bits .ensures) in
+    let a = c .before .before .before .before .before .before .before in
+    let k = kept-running (a .args .w) (a .args .m) (a .args .places) 0 (c .before .octet-or-zero .result) (c .before .before .first-names .result) (a .pre .0) (a .pre .2) (c .before .before .first-names .ensures) in
     keeps-one (framed a) (a .args .places) (a .args .e) (c .kept-bits .result)
-    (omega (arith, c .before .before .before .before .block-extent .ensures .0))
-    (k ∙ ap (keptOctet (a .args .w) (a .args .places) 0) (c .before .octet-or-zero .ensures))
+    (omega (arith, c .before .before .before .before .before .block-extent .ensures .0))
+    (c .kept-bits .ensures ∙ k ∙ ap (keptOctet (a .args .w) (a .args .places) 0) (c .before .octet-or-zero .ensures))
 
 pub keeps-none-spec : {M : Type 1} → statement M
 keeps-none-spec =
     tie.close
-    (tie.spec block-extent-requires returns octet-or-zero-requires kept-bits-requires returns-2)
+    (tie.spec block-extent-requires returns first-names-requires octet-or-zero-requires kept-bits-requires returns-2)

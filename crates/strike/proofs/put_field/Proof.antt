@@ -5,7 +5,8 @@ use mathlib.Core.Path.{refl}
 use native.Mathlib.Omega.{arith}
 use borrow.Author.Needs.{needs}
 use lib.ListN.{length}
-use Rattle.strike.proofs.Going.{behind-within, base-most, field-room-one, field-room-two, field-room-three, field-puts}
+use Rattle.tree.proofs.Lowest.{base-small}
+use Rattle.strike.proofs.Going.{behind-within, field-room-one, field-room-two, field-room-three, field-puts}
 use Rattle.strike.proofs.put_field.Statement.{statement}
 use Rattle.strike.proofs.put_field.Tie as tie
 
@@ -44,7 +45,7 @@ put-pars-requires c κs = let y = c .before .before .before in let p = y .before
       s .pre .0,
       f,
       rw (y .put-block2 .ensures .read) (behind-within 128 (a .s .now) (x .put-block .result .from) f),
-      rw (b .base-of .ensures) (base-most (a .field)),
+      rw (b .base-of .ensures) (base-small (a .field)),
       field-room-three (a .keep) (b .base-of .result) (a .s .now) (a .at) (n .npar-places .ensures) (a .out .now) (a .to) (rw (← (b .base-of .ensures)) at (s .pre .2)) (x .put-block .ensures) (p .spar-places .ensures) (y .put-block2 .ensures),
     )
 

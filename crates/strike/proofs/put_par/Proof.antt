@@ -19,15 +19,15 @@ add-put-whole : tie.Need-add-put-whole
 add-put-whole c = search needs
 
 put-whole-requires : tie.Need-put-whole-requires
-put-whole-requires c κs = let k = c .before .before in let s = k .before .before .before in let a = s .args in
-    (s .pre .0, s .pre .1, omega arith, rw (par-kept (a .keep) (a .b) (a .places) (a .q) (a .s .now) (a .spot .from) (sym (k .is-kept .ensures) ∙ c .before .if1 .taken)) at (s .pre .5))
+put-whole-requires c κs = let t = c .before .before in let k = t .before in let s = k .before .before .before in let a = s .args in
+    (s .pre .0, s .pre .1, omega arith, rw (par-kept (a .branch .keep) (a .branch .base) (a .branch .places) (a .q) (a .s .now) (a .spot .from) (sym (k .is-kept .ensures) ∙ t .if1 .taken)) at (s .pre .5))
 
 same-length : tie.Need-same-length
 same-length c = search needs
 
 returns : tie.Need-returns
-returns c = let w = c .before .before in let t = w .before .before in let k = t .before in let a = k .before .before .before .args in
-    rw (par-kept (a .keep) (a .b) (a .places) (a .q) (a .s .now) (a .spot .from) (sym (k .is-kept .ensures) ∙ t .if1 .taken)) (w .put-whole .ensures)
+returns c = let w = c .before .before in let t = w .before .before .before in let k = t .before in let a = k .before .before .before .args in
+    rw (par-kept (a .branch .keep) (a .branch .base) (a .branch .places) (a .q) (a .s .now) (a .spot .from) (sym (k .is-kept .ensures) ∙ t .if1 .taken)) (w .put-whole .ensures)
 
 block-behind-requires : tie.Need-block-behind-requires
 block-behind-requires c κs = search needs
@@ -37,7 +37,7 @@ group-behind-requires c κs = search needs
 
 returns-2 : tie.Need-returns-2
 returns-2 c = let b = c .before in let k = b .before .before in let s = k .before .before .before in let a = s .args in
-    rw (par-passed (a .keep) (a .b) (a .places) (a .q) (a .s .now) (a .spot .from) (sym (k .is-kept .ensures) ∙ b .before .if1 .left))
+    rw (par-passed (a .branch .keep) (a .branch .base) (a .branch .places) (a .q) (a .s .now) (a .spot .from) (sym (k .is-kept .ensures) ∙ b .before .if1 .left))
     (puts-none (c .group-behind .ensures ∙ group-in (a .s .now) (b .block-behind .result) (s .pre .0) ∙ ap (groupBehind (a .s .now)) (b .block-behind .ensures)) (a .out .now) (a .spot .to))
 
 pub put-par-spec : {M : Type 1} → statement M

@@ -1,52 +1,56 @@
--- `strike::put_pars_of` meets its contract. The loop's invariant: all but what the bits left give was put (`BitsGoing`).
+-- `strike::put_pars_of` meets its contract. The loop's invariant: all but what the bits left give was put (`BitsGoing`). The measure is the bits left, as a number.
 -- Assumes nothing.
 use native.Mathlib.Omega.{arith}
 use lib.ListN.{length}
 use Rattle.tree.specs.Codes.{parsBehind}
 use Rattle.strike.specs.Inner.{parsKept}
-use Rattle.strike.proofs.Going.{pars-stepped, BitsGoing, bits-none, bits-pass, bits-room, bits-turn, bits-end}
+use Rattle.strike.proofs.Going.{pars-stepped, BitsGoing, bits-start, bits-end, bits-reach, bits-less, bits-room, bits-turn}
 use Rattle.strike.proofs.put_pars_of.Statement.{statement}
 use Rattle.strike.proofs.put_pars_of.Tie as tie
 
 abbrev Inv-loop : tie.InvT-loop
-Inv-loop s keep b places above octet out₀ spot₀ bits₀ q₀ left₀ out spot bits q left = BitsGoing (λ qs e. parsKept keep b places qs s e) (λ n e. parsBehind n s e) (length s) 7 above octet spot₀ out₀ out spot bits q left
+Inv-loop s branch above octet out₀ spot₀ bits₀ q₀ out spot bits q = BitsGoing (λ qs e. parsKept (branch .keep) (branch .base) (branch .places) qs s e) (λ n e. parsBehind n s e) (length s) 7 above octet spot₀ out₀ out spot bits q
 
 abbrev μ-loop : tie.MeasureT-loop
-μ-loop s keep b places above octet out₀ spot₀ bits₀ q₀ left₀ out spot bits q left = left
+μ-loop s branch above octet out₀ spot₀ bits₀ q₀ out spot bits q = bits
 
 loop-holds : tie.Need-loop-holds Inv-loop μ-loop
-loop-holds c = let s = c .before .before in let a = s .args in bits-none (pars-stepped (a .keep) (a .b) (a .places) (a .s .now)) (a .out .now) (a .start) (s .pre .1)
+loop-holds c = let s = c .before .before in let a = s .args in bits-start (pars-stepped (a .branch .keep) (a .branch .base) (a .branch .places) (a .s .now)) (a .out .now) (a .start) (s .pre .1)
+
+cast-bits : tie.Need-cast-bits Inv-loop μ-loop
+cast-bits c = let a = c .before .before .before .before .args in
+    omega (arith, bits-reach (pars-stepped (a .branch .keep) (a .branch .base) (a .branch .places) (a .s .now)) (c .before .loop .inv) (omega arith) (c .loop-test .taken))
+
+shr-bits : tie.Need-shr-bits Inv-loop μ-loop
+shr-bits c = let a = c .before .before .before .before .args in
+    omega (arith, bits-reach (pars-stepped (a .branch .keep) (a .branch .base) (a .branch .places) (a .s .now)) (c .before .loop .inv) (omega arith) (c .loop-test .taken))
 
 add-q : tie.Need-add-q Inv-loop μ-loop
-add-q c = omega (arith, c .before .loop .inv .reach)
+add-q c = let a = c .before .before .before .before .args in
+    omega (arith, bits-reach (pars-stepped (a .branch .keep) (a .branch .base) (a .branch .places) (a .s .now)) (c .before .loop .inv) (omega arith) (c .loop-test .taken))
 
-sub-left : tie.Need-sub-left Inv-loop μ-loop
-sub-left c = omega arith
+add-q-2 : tie.Need-add-q-2 Inv-loop μ-loop
+add-q-2 c = let s = c .before .before .before .before in let a = s .args in
+    omega (arith, s .pre .3, bits-reach (pars-stepped (a .branch .keep) (a .branch .base) (a .branch .places) (a .s .now)) (c .before .loop .inv) (omega arith) (c .loop-test .taken))
 
 put-par-requires : tie.Need-put-par-requires Inv-loop μ-loop
-put-par-requires c κs = let t = c .before in let l = t .before .before in let s = l .before .before .before in let a = s .args in
-    let y = l .loop .inv in let h = t .before .loop-test .taken in
-    (s .pre .0, y .going .within, s .pre .2, omega arith, omega (arith, y .reach, s .pre .3), bits-room (pars-stepped (a .keep) (a .b) (a .places) (a .s .now)) y h (t .if1 .taken) (s .pre .4))
+put-par-requires c κs = let t = c .before in let s = t .before .before .before .before in let a = s .args in let x = pars-stepped (a .branch .keep) (a .branch .base) (a .branch .places) (a .s .now) in
+    let y = t .before .loop .inv in let z = t .loop-test .taken in
+    (s .pre .0, y .going .within, s .pre .2, omega arith, omega (arith, bits-reach x y (omega arith) z, s .pre .3), bits-room x y (omega arith) z (s .pre .4))
 
 loop-less : tie.Need-loop-less Inv-loop μ-loop
-loop-less c = omega arith
+loop-less c = let t = c .before .before .before .before in let a = t .before .before .before .before .args in
+    bits-less (pars-stepped (a .branch .keep) (a .branch .base) (a .branch .places) (a .s .now)) (t .before .loop .inv) (omega arith) (t .loop-test .taken)
 
 loop-again : tie.Need-loop-again Inv-loop μ-loop
-loop-again c = let p = c .before .before in let t = p .before .before in let l = t .before .before in let a = l .before .before .before .args in
-    bits-turn (pars-stepped (a .keep) (a .b) (a .places) (a .s .now)) (l .loop .inv) (t .before .loop-test .taken) (t .if1 .taken) (p .put-par .ensures)
-
-loop-less-2 : tie.Need-loop-less-2 Inv-loop μ-loop
-loop-less-2 c = omega arith
-
-loop-again-2 : tie.Need-loop-again-2 Inv-loop μ-loop
-loop-again-2 c = let l = c .before .before in let a = l .before .before .before .args in
-    bits-pass (pars-stepped (a .keep) (a .b) (a .places) (a .s .now)) (l .loop .inv) (c .before .loop-test .taken) (c .if1 .left)
+loop-again c = let p = c .before .before in let t = p .before .before in let a = t .before .before .before .before .args in
+    bits-turn (pars-stepped (a .branch .keep) (a .branch .base) (a .branch .places) (a .s .now)) (t .before .loop .inv) (omega arith) (t .loop-test .taken) (p .put-par .ensures)
 
 same-length : tie.Need-same-length Inv-loop μ-loop
 same-length c = omega (arith, c .before .loop .inv .going .long)
 
 returns : tie.Need-returns Inv-loop μ-loop
-returns c = let a = c .before .before .before .before .args in bits-end (pars-stepped (a .keep) (a .b) (a .places) (a .s .now)) (c .before .loop .inv) (c .loop-test .left)
+returns c = let a = c .before .before .before .before .args in bits-end (pars-stepped (a .branch .keep) (a .branch .base) (a .branch .places) (a .s .now)) (c .before .loop .inv) (c .loop-test .left)
 
 pub put-pars-of-spec : {M : Type 1} → statement M
 put-pars-of-spec =
@@ -55,12 +59,12 @@ put-pars-of-spec =
     Inv-loop
     μ-loop
     loop-holds
+    cast-bits
+    shr-bits
     add-q
-    sub-left
+    add-q-2
     put-par-requires
     loop-less
     loop-again
-    loop-less-2
-    loop-again-2
     same-length
     returns)

@@ -3,7 +3,7 @@
 use Prim.Native.Nat.{_≤_, _-_}
 use native.Mathlib.Omega.{arith}
 use lib.ListN.{length, drop, drop-of-length-le}
-use Rattle.writer.proofs.Putting.{drop-next}
+use Rattle.octets.proofs.Laws.{drop-next}
 use Rattle.strike.proofs.Copying.{Lays, lays-none, lays-turn, lays-room, lays-all}
 use Rattle.strike.proofs.put_rest.Statement.{statement}
 use Rattle.strike.proofs.put_rest.Tie as tie

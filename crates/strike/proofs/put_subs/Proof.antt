@@ -10,13 +10,13 @@ use Rattle.strike.proofs.put_subs.Statement.{statement}
 use Rattle.strike.proofs.put_subs.Tie as tie
 
 abbrev Inv-loop : tie.InvT-loop
-Inv-loop s keep c places e out₀ spot₀ above₀ i₀ out spot above i = OctetsGoing (λ qs f. subsKept keep c places qs s f) (λ n f. subsBehind n s f) 6 64 s e spot₀ out₀ out spot above i
+Inv-loop s branch e out₀ spot₀ above₀ i₀ out spot above i = OctetsGoing (λ qs f. subsKept (branch .keep) (branch .base) (branch .places) qs s f) (λ n f. subsBehind n s f) 6 64 s e spot₀ out₀ out spot above i
 
 abbrev μ-loop : tie.MeasureT-loop
-μ-loop s keep c places e out₀ spot₀ above₀ i₀ out spot above i = length s - i
+μ-loop s branch e out₀ spot₀ above₀ i₀ out spot above i = length s - i
 
 loop-holds : tie.Need-loop-holds Inv-loop μ-loop
-loop-holds c = let s = c .before .before in let a = s .args in octets-none (subs-stepped (a .keep) (a .c) (a .places) (a .s .now)) (a .out .now) (a .start) (s .pre .2)
+loop-holds c = let s = c .before .before in let a = s .args in octets-none (subs-stepped (a .branch .keep) (a .branch .base) (a .branch .places) (a .s .now)) (a .out .now) (a .start) (s .pre .2)
 
 shared-slice-read-octet : tie.Need-shared-slice-read-octet Inv-loop μ-loop
 shared-slice-read-octet c = omega arith
@@ -24,14 +24,14 @@ shared-slice-read-octet c = omega arith
 put-subs-of-requires : tie.Need-put-subs-of-requires Inv-loop μ-loop
 put-subs-of-requires c κs = let t = c .before .before in let l = t .before in let s = l .before .before .before in let a = s .args in
     let y = l .loop .inv in
-    (s .pre .0, y .going .within, s .pre .3, omega (arith, y .reach, s .pre .0, t .loop-test .taken), octets-room (subs-stepped (a .keep) (a .c) (a .places) (a .s .now)) y (t .loop-test .taken) (s .pre .4))
+    (s .pre .0, y .going .within, s .pre .3, omega (arith, y .reach, s .pre .0, t .loop-test .taken), octets-room (subs-stepped (a .branch .keep) (a .branch .base) (a .branch .places) (a .s .now)) y (t .loop-test .taken) (s .pre .4))
 
 same-length : tie.Need-same-length Inv-loop μ-loop
 same-length c = let p = c .before .before .before in omega (arith, p .put-subs-of .kept)
 
 returns : tie.Need-returns Inv-loop μ-loop
 returns c = let p = c .before .before .before in let t = p .before .before .before in let a = t .before .before .before .before .args in
-    octets-last (subs-stepped (a .keep) (a .c) (a .places) (a .s .now)) (t .before .loop .inv) (t .loop-test .taken) (p .put-subs-of .ensures) (c .if1 .taken)
+    octets-last (subs-stepped (a .branch .keep) (a .branch .base) (a .branch .places) (a .s .now)) (t .before .loop .inv) (t .loop-test .taken) (p .put-subs-of .ensures) (c .if1 .taken)
 
 add-above : tie.Need-add-above Inv-loop μ-loop
 add-above c = let t = c .before .before .before .before .before .before in omega (arith, t .before .loop .inv .reach, t .loop-test .taken, t .before .before .before .before .pre .0)
@@ -44,13 +44,13 @@ loop-less c = omega arith
 
 loop-again : tie.Need-loop-again Inv-loop μ-loop
 loop-again c = let p = c .before .before .before in let t = p .before .before .before in let a = t .before .before .before .before .args in
-    octets-turn (subs-stepped (a .keep) (a .c) (a .places) (a .s .now)) (t .before .loop .inv) (t .loop-test .taken) (p .put-subs-of .ensures) (c .if1 .left)
+    octets-turn (subs-stepped (a .branch .keep) (a .branch .base) (a .branch .places) (a .s .now)) (t .before .loop .inv) (t .loop-test .taken) (p .put-subs-of .ensures) (c .if1 .left)
 
 same-length-2 : tie.Need-same-length-2 Inv-loop μ-loop
 same-length-2 c = omega (arith, c .before .loop .inv .going .long)
 
 returns-2 : tie.Need-returns-2 Inv-loop μ-loop
-returns-2 c = let a = c .before .before .before .before .args in octets-end (subs-stepped (a .keep) (a .c) (a .places) (a .s .now)) (c .before .loop .inv) (c .loop-test .left)
+returns-2 c = let a = c .before .before .before .before .args in octets-end (subs-stepped (a .branch .keep) (a .branch .base) (a .branch .places) (a .s .now)) (c .before .loop .inv) (c .loop-test .left)
 
 pub put-subs-spec : {M : Type 1} → statement M
 put-subs-spec =

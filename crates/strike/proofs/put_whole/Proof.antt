@@ -3,7 +3,7 @@
 use mathlib.Core.Path.{refl}
 use native.Mathlib.Omega.{arith}
 use borrow.Author.Needs.{needs}
-use Rattle.strike.proofs.Going.{behind-within, whole-room, whole-room-behind, whole-last, whole-puts}
+use Rattle.strike.proofs.Going.{behind-within, whole-room, whole-room-behind, whole-puts}
 use Rattle.strike.proofs.put_whole.Statement.{statement}
 use Rattle.strike.proofs.put_whole.Tie as tie
 
@@ -12,26 +12,25 @@ npar-places-requires c κs = search needs
 
 put-block-requires : tie.Need-put-block-requires
 put-block-requires c κs = let n = c .before in let s = n .before .before .before in let a = s .args in
-    (refl, omega arith, omega arith, s .pre .0, s .pre .1, whole-room (a .keep) (a .c) (a .s .now) (a .from) (n .npar-places .ensures) (a .out .now) (a .to) (s .pre .3))
+    (refl, omega arith, omega arith, s .pre .0, s .pre .1, whole-room (a .keep) (a .c) (a .s .now) (a .spot .from) (n .npar-places .ensures) (a .out .now) (a .spot .to) (s .pre .3))
 
 put-group-requires : tie.Need-put-group-requires
 put-group-requires c κs = let x = c .before .before .before in let n = x .before .before in let s = n .before .before .before in let a = s .args in (
   s .pre .0,
-  rw (x .put-block .ensures .read) (behind-within 64 (a .s .now) (a .from) (s .pre .1)),
+  rw (x .put-block .ensures .read) (behind-within 64 (a .s .now) (a .spot .from) (s .pre .1)),
   s .pre .2,
-  whole-room-behind (a .keep) (a .c) (a .s .now) (a .from) (n .npar-places .ensures) (a .out .now) (a .to) (s .pre .3) (x .put-block .ensures),
+  whole-room-behind (a .keep) (a .c) (a .s .now) (a .spot .from) (n .npar-places .ensures) (a .out .now) (a .spot .to) (s .pre .3) (x .put-block .ensures),
 )
 
 mark-last-requires : tie.Need-mark-last-requires
-mark-last-requires c κs = let y = c .before .before .before in let x = y .before .before .before .before in let n = x .before .before in let s = n .before .before .before in let a = s .args in
-    whole-last (a .keep) (a .c) (a .s .now) (a .from) (n .npar-places .ensures) (a .out .now) (a .to) (s .pre .3) (x .put-block .ensures) (y .put-group .ensures)
+mark-last-requires c κs = search needs
 
 same-length : tie.Need-same-length
 same-length c = search needs
 
 returns : tie.Need-returns
 returns c = let m = c .before .before in let y = m .before .before .before .before in let x = y .before .before .before .before in let n = x .before .before in let s = n .before .before .before in let a = s .args in
-    whole-puts (a .keep) (a .c) (a .s .now) (a .from) (n .npar-places .ensures) (a .out .now) (a .to) (s .pre .3) (x .put-block .ensures) (y .put-group .ensures) (m .mark-last .ensures)
+    whole-puts (a .keep) (a .c) (a .s .now) (a .spot .from) (n .npar-places .ensures) (a .out .now) (a .spot .to) (s .pre .3) (x .put-block .ensures) (y .put-group .ensures) (m .mark-last .ensures)
 
 pub put-whole-spec : {M : Type 1} → statement M
 put-whole-spec =

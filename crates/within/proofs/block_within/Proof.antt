@@ -1,7 +1,8 @@
 -- `within::block_within` meets its contract. The loop's invariant: what is asked of the blocks is asked of what is left of them (`BlockPairing`).
 -- Assumes nothing.
 use Prim.Native.Nat.{_-_, _<_}
-use mathlib.Core.Path.{refl, sym}
+use mathlib.Core.Logic.{⊎-elim}
+use mathlib.Core.Path.{refl, sym, _∙_}
 use native.Mathlib.Omega.{arith}
 use borrow.Author.Needs.{needs}
 use lib.ListN.{length}
@@ -56,13 +57,6 @@ returns-3 : tie.Need-returns-3 Inv-loop μ-loop
 returns-3 c = let l = c .before in let i = l .before in let n = i .before in let z = n .before in let b = z .before .before in let a = b .before .before .before .before in let v = z .octet-or-zero .ensures in
     block-rest (b .before .loop .inv) (a .pre .0) (rw v at (n .if1 .left)) (b .loop-test .taken) (l .if3 .left) (stands i) (rw v at (i .if2 .taken)) (c .block-empty .ensures)
 
-passed-over-requires : tie.Need-passed-over-requires Inv-loop μ-loop
-passed-over-requires c κs = search needs
-
-returns-4 : tie.Need-returns-4 Inv-loop μ-loop
-returns-4 c = let l = c .before in let n = l .before .before in let z = n .before in let b = z .before .before in let a = b .before .before .before .before in let v = z .octet-or-zero .ensures in let e = c .passed-over .ensures in
-    block-last (b .before .loop .inv) (a .pre .0) (rw v at (n .if1 .left)) (b .loop-test .taken) (l .if4 .taken) (e .0) (e .1) (rw (← (a .pre .0)) at (e .2))
-
 add-j-2 : tie.Need-add-j-2 Inv-loop μ-loop
 add-j-2 c = search needs
 
@@ -78,12 +72,13 @@ loop-less-2 c = omega arith
 loop-again-2 : tie.Need-loop-again-2 Inv-loop μ-loop
 loop-again-2 c = let l = c .before in let n = l .before .before in let z = n .before in let b = z .before .before in let a = b .before .before .before .before in let v = z .octet-or-zero .ensures in block-alone (b .before .loop .inv) (a .pre .0) (rw v at (n .if1 .left)) (b .loop-test .taken) (l .if4 .left) (c .if5 .left)
 
-passed-over-requires-2 : tie.Need-passed-over-requires-2 Inv-loop μ-loop
-passed-over-requires-2 c κs = search needs
+passed-over-requires : tie.Need-passed-over-requires Inv-loop μ-loop
+passed-over-requires c κs = search needs
 
-returns-5 : tie.Need-returns-5 Inv-loop μ-loop
-returns-5 c = let b = c .before in let a = b .before .before .before .before in let e = c .passed-over2 .ensures in
-    block-done (b .before .loop .inv) (b .loop-test .left) (e .0) (e .1) (rw (← (a .pre .0)) at (e .2))
+returns-4 : tie.Need-returns-4 Inv-loop μ-loop
+returns-4 c = let o = c .before in let l = o .before in let h = l .before .before .before .pre .0 in let e = c .passed-over .ensures in let past = rw (← h) at (e .2) in
+    ⊎-elim (λ d. block-done (l .loop .inv) (d .0 .left) (e .0) (e .1 ∙ d .1) past)
+    (λ d. block-last (l .loop .inv) h (rw (d .2 .ensures) at (d .3 .left)) (d .0 .taken) (d .5 .taken) (e .0) (e .1 ∙ d .6) past) (o .loop-test .came)
 
 pub block-within-spec : {M : Type 1} → statement M
 block-within-spec =
@@ -101,12 +96,10 @@ block-within-spec =
     returns-2
     block-empty-requires
     returns-3
-    passed-over-requires
-    returns-4
     add-j-2
     loop-less
     loop-again
     loop-less-2
     loop-again-2
-    passed-over-requires-2
-    returns-5)
+    passed-over-requires
+    returns-4)

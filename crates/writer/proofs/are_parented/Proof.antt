@@ -9,7 +9,7 @@ use native.Mathlib.Omega.{arith}
 use borrow.Author.Needs.{needs}
 use borrow.Author.Tests.{not-true, not-false}
 use lib.ListN.{length, getD, drop, drop-of-length-le}
-use Rattle.writer.proofs.Putting.{drop-next}
+use Rattle.octets.proofs.Laws.{drop-next}
 use Rattle.writer.proofs.Parents.{latest-take, latest-pass, Parenting, parenting-none, parenting-fails, parenting-turn, parenting-end}
 use Rattle.writer.proofs.are_parented.Statement.{statement}
 use Rattle.writer.proofs.are_parented.Tie as tie

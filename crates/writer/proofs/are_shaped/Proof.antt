@@ -6,8 +6,8 @@ use native.Mathlib.Omega.{arith}
 use borrow.Author.Needs.{needs}
 use borrow.Author.Tests.{not-true, not-false}
 use lib.ListN.{length, drop, drop-of-length-le}
-use Rattle.writer.specs.Meaning.{allShaped}
-use Rattle.writer.proofs.Putting.{drop-next}
+use Rattle.meaning.specs.Meaning.{allShaped}
+use Rattle.octets.proofs.Laws.{drop-next}
 use Rattle.writer.proofs.are_shaped.Statement.{statement}
 use Rattle.writer.proofs.are_shaped.Tie as tie
 

@@ -7,9 +7,9 @@ use native.Mathlib.Omega.{arith}
 use borrow.Author.Tests.{ne-eqb}
 use lib.ListN.{length, getD, drop, drop-of-length-le}
 use Rattle.tree.specs.Fields.{isIn}
-use Rattle.writer.specs.Meaning.{ascending}
+use Rattle.meaning.specs.Meaning.{ascending}
 use Rattle.writer.proofs.Parents.{ascending-rest, met-first}
-use Rattle.writer.proofs.Putting.{drop-next}
+use Rattle.octets.proofs.Laws.{drop-next}
 use Rattle.writer.proofs.contains.Statement.{statement}
 use Rattle.writer.proofs.contains.Tie as tie
 

@@ -4,7 +4,7 @@ use Prim.Native.Nat.{_-_, _<_}
 use mathlib.Core.Path.{_≡_, _∙_}
 use native.Mathlib.Omega.{arith}
 use lib.ListN.{length, getD, drop, drop-of-length-le}
-use Rattle.writer.specs.Meaning.{ascendingFrom, ascending}
+use Rattle.meaning.specs.Meaning.{ascendingFrom, ascending}
 use Rattle.writer.proofs.Parents.{ascending-start, ascending-next, ascending-stops}
 use Rattle.writer.proofs.is_ascending.Statement.{statement}
 use Rattle.writer.proofs.is_ascending.Tie as tie

@@ -1,7 +1,7 @@
 -- `writer::is_shaped` meets its contract: its tests are those of `shaped`.
 -- Assumes nothing.
 use borrow.Author.Tests.{lt-ltb, le-ltb, eq-eqb, ne-eqb}
-use Rattle.writer.specs.Meaning.{shaped}
+use Rattle.meaning.specs.Meaning.{shaped}
 use Rattle.writer.proofs.is_shaped.Statement.{statement}
 use Rattle.writer.proofs.is_shaped.Tie as tie
 

@@ -4,7 +4,7 @@ use mathlib.Core.Path.{sym, ap, _∙_}
 use mathlib.Core.Bool.{not}
 use borrow.Author.Needs.{needs}
 use Rattle.tree.specs.Form.{isFine}
-use Rattle.writer.specs.Writer.{nsAgrees}
+use Rattle.meaning.specs.Writing.{nsAgrees}
 use Rattle.writer.proofs.Parents.{empty-none, empty-some}
 use Rattle.writer.proofs.ns_agrees.Statement.{statement}
 use Rattle.writer.proofs.ns_agrees.Tie as tie

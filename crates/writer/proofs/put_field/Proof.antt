@@ -3,7 +3,7 @@
 use mathlib.Core.Path.{refl}
 use native.Mathlib.Omega.{arith}
 use borrow.Author.Needs.{needs}
-use Rattle.writer.proofs.Putting.{puts-most, between-front, between-behind, field-puts}
+use Rattle.writer.proofs.Putting.{puts-most, between-wider, between-front, between-behind, field-puts}
 use Rattle.writer.proofs.put_field.Statement.{statement}
 use Rattle.writer.proofs.put_field.Tie as tie
 
@@ -40,11 +40,11 @@ put-block-requires c κs = let r = c .before .before .before in let s = r .befor
 
 put-block-requires-2 : tie.Need-put-block-requires-2
 put-block-requires-2 c κs = let p = c .before .before .before in let r = p .before .before .before .before in let s = r .before .before .before in
-    (between-behind _ _ _ (r .run-length .ensures .0) (s .pre .0), omega arith, omega (arith, s .pre .1), refl, omega arith, omega arith, p .put-block .ensures .size, puts-most (p .put-block .ensures))
+    (between-behind _ _ _ (omega arith) (r .run-length .ensures .0) (s .pre .0), omega arith, omega (arith, s .pre .1), refl, omega arith, omega arith, p .put-block .ensures .size, puts-most (p .put-block .ensures))
 
 put-pars-requires : tie.Need-put-pars-requires
 put-pars-requires c κs = let q = c .before .before .before in let r = q .before .before .before .before .before .before .before .before in let s = r .before .before .before in
-    (between-behind _ _ _ (r .run-length .ensures .0) (s .pre .0), s .pre .1, q .put-block2 .ensures .size, puts-most (q .put-block2 .ensures))
+    (between-wider (omega arith) (omega (arith, s .pre .1)) (between-behind _ _ _ (omega arith) (r .run-length .ensures .0) (s .pre .0)), q .put-block2 .ensures .size, puts-most (q .put-block2 .ensures))
 
 same-length : tie.Need-same-length
 same-length c = search needs

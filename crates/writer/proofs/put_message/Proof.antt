@@ -4,7 +4,7 @@ use mathlib.Core.Logic.{⊎-elim}
 use native.Mathlib.Omega.{arith}
 use borrow.Author.Needs.{needs}
 use lib.ListN.{replicate}
-use Rattle.writer.specs.Writer.{messageOctets}
+use Rattle.meaning.specs.Writing.{messageOctets}
 use Rattle.writer.specs.Inner.{Puts}
 use Rattle.writer.proofs.Putting.{message-fields, message-short, message-sent, message-long}
 use Rattle.writer.proofs.Parents.{known-most}
@@ -52,7 +52,7 @@ same-length c = search needs
 
 returns-2 : tie.Need-returns-2
 returns-2 c = let p = c .before .before in let e = p .before .before .before in let j = e .before in let s = j .before .before .before .before .before .before .before in
-    message-sent (joined j) (omega arith) (s .pre .5) (e .if2 .left) (p .copy-front .ensures)
+    message-sent (joined j) (omega arith) (s .pre .6) (e .if2 .left) (p .copy-front .ensures)
 
 pub put-message-spec : {M : Type 1} → statement M
 put-message-spec =

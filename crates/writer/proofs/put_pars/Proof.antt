@@ -1,23 +1,22 @@
 -- `writer::put_pars` meets its contract. The loop's invariant: all but what the codes from i on give was put (`Parting`).
 -- Assumes nothing.
-use Prim.Native.Nat.{_+_, _-_}
+use Prim.Native.Nat.{_-_}
+use mathlib.Core.Path.{refl, sym, _∙_}
 use native.Mathlib.Omega.{arith}
 use borrow.Author.Needs.{needs}
 use lib.ListN.{length}
-use Rattle.writer.specs.Written.{parsWritten}
-use Rattle.writer.proofs.Putting.{puts-most, pars-parted, Parting, parting-none, parting-head, parting-count, parting-between, parting-turn, parting-end}
+use Rattle.writer.proofs.Putting.{puts-most, putting-none, Parting, parting-head, parting-count, parting-under, parting-behind, parting-on, parting-closed, parting-end}
 use Rattle.writer.proofs.put_pars.Statement.{statement}
 use Rattle.writer.proofs.put_pars.Tie as tie
 
 abbrev Inv-loop : tie.InvT-loop
-Inv-loop list base out₀ start at₀ i₀ out at i = Parting parsWritten base (base + 134217728) list i out₀ start out at
+Inv-loop list out₀ start at₀ i₀ out at i = Parting list i out₀ start out at
 
 abbrev μ-loop : tie.MeasureT-loop
-μ-loop list base out₀ start at₀ i₀ out at i = length list - i
+μ-loop list out₀ start at₀ i₀ out at i = length list - i
 
 loop-holds : tie.Need-loop-holds Inv-loop μ-loop
-loop-holds c = let s = c .before .before in let a = s .args in
-    parting-none parsWritten (a .base) (a .base + 134217728) (a .list .now) (a .out .now) (a .start) (s .pre .0) (s .pre .2) (s .pre .3)
+loop-holds c = let s = c .before .before in record { puts = putting-none _ (s .args .out .now) (s .args .start) (s .pre .1) (s .pre .2); rest = s .pre .0 }
 
 mul-head : tie.Need-mul-head Inv-loop μ-loop
 mul-head c = omega arith
@@ -41,44 +40,78 @@ part-rest-end : tie.Need-part-rest-end Inv-loop μ-loop
 part-rest-end c = omega arith
 
 add-run-length : tie.Need-add-run-length Inv-loop μ-loop
-add-run-length c = let l = c .before .before .before in omega (arith, l .before .before .before .pre .1, parting-head pars-parted (l .loop .inv) (c .before .before .loop-test .taken))
+add-run-length c = omega (arith, parting-head (c .before .before .before .loop .inv) (c .before .before .loop-test .taken))
 
 run-length-requires : tie.Need-run-length-requires Inv-loop μ-loop
 run-length-requires c κs = search needs
 
-sub-put-par : tie.Need-sub-put-par Inv-loop μ-loop
-sub-put-par c = omega arith
+sub-put-block : tie.Need-sub-put-block Inv-loop μ-loop
+sub-put-block c = omega arith
 
-part-put-par-start : tie.Need-part-put-par-start Inv-loop μ-loop
-part-put-par-start c = omega arith
+part-put-block-start : tie.Need-part-put-block-start Inv-loop μ-loop
+part-put-block-start c = omega arith
 
-part-put-par-end : tie.Need-part-put-par-end Inv-loop μ-loop
-part-put-par-end c = omega arith
+part-put-block-end : tie.Need-part-put-block-end Inv-loop μ-loop
+part-put-block-end c = omega arith
 
-put-par-requires : tie.Need-put-par-requires Inv-loop μ-loop
-put-par-requires c κs = let r = c .before .before in let l = r .before .before .before .before in
-    let h = r .before .before .before .loop-test .taken in let x = l .loop .inv in
-    (parting-between pars-parted x h (r .run-length .ensures .0), omega (arith, l .before .before .before .pre .1, parting-head pars-parted x h), x .puts .puts .size, puts-most (x .puts .puts))
+put-block-requires : tie.Need-put-block-requires Inv-loop μ-loop
+put-block-requires c κs = let r = c .before .before in let t = r .before .before .before in let x = t .before .loop .inv in let h = t .loop-test .taken in
+    (parting-under x h (r .run-length .ensures .0), omega arith, omega (arith, parting-head x h), refl, omega arith, omega arith, x .puts .puts .size, puts-most (x .puts .puts))
 
 add-i : tie.Need-add-i Inv-loop μ-loop
 add-i c = omega arith
 
 add-i-2 : tie.Need-add-i-2 Inv-loop μ-loop
-add-i-2 c = let r = c .before .before .before .before .before in let l = r .before .before .before .before in
-    omega (arith, l .before .before .before .good .0, parting-count pars-parted (l .loop .inv) (r .before .before .before .loop-test .taken) (r .run-length .ensures .0))
+add-i-2 c = let r = c .before .before .before .before .before in let t = r .before .before .before in
+    omega (arith, t .before .before .before .before .good .0, parting-count (t .before .loop .inv) (t .loop-test .taken) (r .run-length .ensures .0))
+
+mul-put-lower : tie.Need-mul-put-lower Inv-loop μ-loop
+mul-put-lower c = omega arith
+
+sub-put-lower : tie.Need-sub-put-lower Inv-loop μ-loop
+sub-put-lower c = let r = c .before .before .before .before .before in let t = r .before .before .before in
+    omega (arith, parting-count (t .before .loop .inv) (t .loop-test .taken) (r .run-length .ensures .0))
+
+part-put-lower-start : tie.Need-part-put-lower-start Inv-loop μ-loop
+part-put-lower-start c = let r = c .before .before .before .before .before in let t = r .before .before .before in
+    omega (arith, parting-count (t .before .loop .inv) (t .loop-test .taken) (r .run-length .ensures .0))
+
+part-put-lower-end : tie.Need-part-put-lower-end Inv-loop μ-loop
+part-put-lower-end c = omega arith
+
+put-lower-requires : tie.Need-put-lower-requires Inv-loop μ-loop
+put-lower-requires c κs = let p = c .before .before .before .before in let r = p .before .before .before in let t = r .before .before .before in
+    let x = t .before .loop .inv in let h = t .loop-test .taken in
+    (parting-behind x h (r .run-length .ensures .0), parting-head x h, p .put-block .ensures .size, puts-most (p .put-block .ensures))
+
+ends-par-requires : tie.Need-ends-par-requires Inv-loop μ-loop
+ends-par-requires c κs = search needs
+
+mark-last-requires : tie.Need-mark-last-requires Inv-loop μ-loop
+mark-last-requires c κs = search needs
 
 loop-less : tie.Need-loop-less Inv-loop μ-loop
 loop-less c = omega arith
 
 loop-again : tie.Need-loop-again Inv-loop μ-loop
-loop-again c = let p = c .before .before in let r = p .before .before .before in let l = r .before .before .before .before in
-    parting-turn pars-parted (l .loop .inv) (r .before .before .before .loop-test .taken) (r .run-length .ensures .0) (p .put-par .ensures)
+loop-again c = let m = c .before .before in let f = m .before .before in let e = f .before in let q = e .before .before .before in
+    let p = q .before .before .before .before .before in let r = p .before .before .before in let t = r .before .before .before in
+    parting-closed (t .before .loop .inv) (t .loop-test .taken) (r .run-length .ensures .0) (p .put-block .ensures) (q .put-lower .ensures)
+    (sym (e .ends-par .ensures) ∙ f .if1 .taken) (m .mark-last .kept .0 ∙ q .put-lower .ensures .size) (m .mark-last .ensures)
+
+loop-less-2 : tie.Need-loop-less-2 Inv-loop μ-loop
+loop-less-2 c = omega arith
+
+loop-again-2 : tie.Need-loop-again-2 Inv-loop μ-loop
+loop-again-2 c = let e = c .before in let q = e .before .before .before in
+    let p = q .before .before .before .before .before in let r = p .before .before .before in let t = r .before .before .before in
+    parting-on (t .before .loop .inv) (t .loop-test .taken) (r .run-length .ensures .0) (p .put-block .ensures) (q .put-lower .ensures) (sym (e .ends-par .ensures) ∙ c .if1 .left)
 
 same-length : tie.Need-same-length Inv-loop μ-loop
 same-length c = omega (arith, c .before .loop .inv .puts .puts .size)
 
 returns : tie.Need-returns Inv-loop μ-loop
-returns c = parting-end pars-parted (c .before .loop .inv) (c .loop-test .left)
+returns c = parting-end (c .before .loop .inv) (c .loop-test .left)
 
 pub put-pars-spec : {M : Type 1} → statement M
-put-pars-spec = tie.close (tie.spec Inv-loop μ-loop loop-holds mul-head shared-slice-read-head add-rest mul-rest sub-rest part-rest-start part-rest-end add-run-length run-length-requires sub-put-par part-put-par-start part-put-par-end put-par-requires add-i add-i-2 loop-less loop-again same-length returns)
+put-pars-spec = tie.close (tie.spec Inv-loop μ-loop loop-holds mul-head shared-slice-read-head add-rest mul-rest sub-rest part-rest-start part-rest-end add-run-length run-length-requires sub-put-block part-put-block-start part-put-block-end put-block-requires add-i add-i-2 mul-put-lower sub-put-lower part-put-lower-start part-put-lower-end put-lower-requires ends-par-requires mark-last-requires loop-less loop-again loop-less-2 loop-again-2 same-length returns)

@@ -3,7 +3,8 @@
 use Prim.Native.Nat.{_-_}
 use native.Mathlib.Omega.{arith}
 use lib.ListN.{length, drop, drop-of-length-le}
-use Rattle.writer.proofs.Putting.{puts-most, Putting, putting-none, putting-turn, putting-all, drop-next}
+use Rattle.writer.proofs.Putting.{puts-most, Putting, putting-none, putting-turn, putting-all}
+use Rattle.octets.proofs.Laws.{drop-next}
 use Rattle.writer.proofs.put_run.Statement.{statement}
 use Rattle.writer.proofs.put_run.Tie as tie
 

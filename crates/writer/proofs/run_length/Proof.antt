@@ -4,7 +4,7 @@ use Prim.Native.Nat.{_+_, _-_, _≤_}
 use mathlib.Core.Path.{_≡_, _∙_}
 use native.Mathlib.Omega.{arith}
 use lib.ListN.{length, drop}
-use Rattle.writer.specs.Written.{run}
+use Rattle.meaning.specs.Written.{run}
 use Rattle.writer.proofs.Putting.{run-more, run-stops, run-ends}
 use Rattle.writer.proofs.run_length.Statement.{statement}
 use Rattle.writer.proofs.run_length.Tie as tie

@@ -3,7 +3,7 @@
 use mathlib.Core.Path.{refl, sym, _∙_}
 use borrow.Author.Needs.{needs}
 use borrow.Author.Tests.{not-true, not-false}
-use Rattle.writer.specs.Writer.{checkedWriting}
+use Rattle.meaning.specs.Writing.{checkedWriting}
 use Rattle.writer.proofs.write_checked.Statement.{statement}
 use Rattle.writer.proofs.write_checked.Tie as tie
 
@@ -24,7 +24,7 @@ returns-2 c = let n = c .before in let e = n .before in
 
 put-message-requires : tie.Need-put-message-requires
 put-message-requires c κs = let e = c .before .before .before in let s = e .before .before .before .before .before in
-    (s .pre .0, s .pre .1, s .pre .2, s .pre .3, sym (e .before .ends-there .ensures) ∙ not-false _ (e .if1 .left), s .pre .4)
+    (s .pre .0, s .pre .1, s .pre .2, s .pre .3, s .pre .4, sym (e .before .ends-there .ensures) ∙ not-false _ (e .if1 .left), s .pre .5)
 
 same-length : tie.Need-same-length
 same-length c = search needs

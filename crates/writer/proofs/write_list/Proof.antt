@@ -4,8 +4,8 @@ use mathlib.Core.Path.{_≡_, refl, sym, _∙_}
 use mathlib.Core.Bool.{true}
 use borrow.Author.Needs.{needs}
 use borrow.Author.Tests.{not-true, not-false}
-use Rattle.writer.specs.Meaning.{allShaped, ascending}
-use Rattle.writer.specs.Writer.{listWriting}
+use Rattle.meaning.specs.Meaning.{allShaped, ascending}
+use Rattle.meaning.specs.Writing.{listWriting}
 use Rattle.writer.proofs.write_list.Statement.{statement}
 use Rattle.writer.proofs.write_list.Tie as tie
 
@@ -40,8 +40,8 @@ returns-3 c = let n = c .before in let f = n .before in
     rw (shaped-known (f .before .before), ascending-known f, sym (n .are-parented .ensures) ∙ not-true _ (c .if3 .taken)) (record { reply = refl; output = refl })
 
 write-checked-requires : tie.Need-write-checked-requires
-write-checked-requires c κs = let f = c .before .before .before in let e = f .before .before in let s = e .before .before .before .before .before in
-    (s .pre .0, s .pre .1, shaped-known e, ascending-known f, s .pre .2)
+write-checked-requires c κs = let g = c .before in let n = g .before in let f = n .before in let e = f .before .before in let s = e .before .before .before .before .before in
+    (s .pre .0, s .pre .1, shaped-known e, ascending-known f, sym (n .are-parented .ensures) ∙ not-false _ (g .if3 .left), s .pre .2)
 
 same-length : tie.Need-same-length
 same-length c = search needs

@@ -3,7 +3,7 @@
 use mathlib.Core.Path.{refl, sym, _∙_}
 use borrow.Author.Needs.{needs}
 use borrow.Author.Tests.{lt-ltb, le-ltb, not-true, not-false}
-use Rattle.writer.specs.Writer.{writeMessage}
+use Rattle.meaning.specs.Writing.{writeMessage}
 use Rattle.writer.proofs.write_message.Statement.{statement}
 use Rattle.writer.proofs.write_message.Tie as tie
 

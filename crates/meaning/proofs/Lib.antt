@@ -1,0 +1,9 @@
+pub mod Trees
+pub mod Growing
+pub mod Meanings
+pub mod Blocks
+pub mod Reading
+pub mod Minimals
+pub mod Announcing
+pub mod RoundTrip
+pub mod Vectors

@@ -1,0 +1,5 @@
+pub mod Meaning
+pub mod Written
+pub mod Minimal
+pub mod Writing
+pub mod Inner
