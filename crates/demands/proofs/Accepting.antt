@@ -21,20 +21,21 @@ use Rattle.choice.proofs.Truths.{never}
 use Rattle.table.specs.declared.Phase.{Phase}
 use Rattle.table.specs.declared.Phase.the-variants.{Initial, Mode}
 use Rattle.table.specs.declared.Heard.{Heard}
-use Rattle.table.specs.declared.Heard.the-variants.{Spoilt}
+use Rattle.table.specs.declared.Heard.the-variants as heard
 use Rattle.table.specs.declared.Act.{Act}
-use Rattle.table.specs.declared.Act.the-variants.{NoRow, SendMrE, SendMrD, CounterMrD, SendCrE, SendCrD, Propose, SendCl, SendClr, PairClr, Take, Judge, Agree, GiveUp, SendNak1}
+use Rattle.table.specs.declared.Signal.the-variants.{MrE, MrD, CrE, CrD}
+use Rattle.table.specs.declared.Act.the-variants.{NoRow, SendSignal, CounterMrD, Propose, SendCl, SendClr, PairClr, Take, Judge, Agree, GiveUp, SendNak1}
 use Rattle.table.specs.declared.After.the-variants.{ThenMs, ThenClMs, ThenCl, ThenHalf}
 use Rattle.table.specs.Phases.{kindOf, wishOf, ackOf}
 use Rattle.table.specs.Bound.{leadsTo}
 use Rattle.station.specs.Sending.{sentAck, sentNak}
 use Rattle.station.specs.Acting.{Outcome, quiet, sends, asksAck, judges}
 use Rattle.station.specs.Sorting.{Sort, known, strange, sortOf, fieldHeard}
-use Rattle.station.specs.Stepping.{isMode}
-use Rattle.station.specs.Inner.{isMessage, needsField}
+use Rattle.table.specs.Phases.{isMode}
+use Rattle.table.specs.Inner.{isMessage, needsField}
 use Rattle.station.specs.declared.Event.{Event}
-use Rattle.station.specs.declared.Event.the-variants.{Begin, Tones, Field, InvalidFrame, Answer, Reset}
-use Rattle.station.proofs.Needing.{needs-message, start-bare, signal-bare}
+use Rattle.station.specs.declared.Event.the-variants as events
+use Rattle.table.proofs.Needing.{needs-message}
 use Rattle.station.proofs.Sendings.{ack-octet, nak-octet}
 use Rattle.demands.specs.Given.{Given, steps, actOn, doing, Passes, standardHeard}
 use Rattle.demands.specs.Sent.{IsField, farSays}
@@ -52,7 +53,7 @@ pub data Verdicts : ℕ → Type 0 where
 
 pub verdicts : (g : Given) → Verdicts (verdictOn g)
 unfolding verdict
-verdicts g = go (fitsReady (standardHeard g) (wishesOf (g .run))) (fitsSome (standardHeard g) (wishesOf (g .run)))
+verdicts g = go (fitsReady (standardHeard g) (wishesOf (g .wishes))) (fitsSome (standardHeard g) (wishesOf (g .wishes)))
   where
     go : (a b : Bool) → Verdicts (pick a 0 (pick b 2 3))
     go true b = fits-ready
@@ -66,13 +67,13 @@ mode-judged g few = go (verdicts g) refl
   where
     go : {v : ℕ} → Verdicts v → verdictOn g ≡ v → Judged g (judges v (g .field) (g .time))
     go fits-ready e =
-        let f = judging.accepted (standardHeard g) (wishesOf (g .run)) e in
+        let f = judging.accepted (standardHeard g) (wishesOf (g .wishes)) e in
         let stored = mode-is-stored (g .field) few in
         by-test (farSays 4 g)
         (λ a. asked (f .0) (f .1) _ stored a (rw (a, ack-octet)))
         (λ a. unasked (f .0) (f .1) _ stored a (rw a))
-    go fits-unready e = let f = judging.not-ready (standardHeard g) (wishesOf (g .run)) e in unready (f .0) (f .1) (rw (nak-octet 2))
-    go fits-none e = unfit (judging.no-fit (standardHeard g) (wishesOf (g .run)) e) (rw (nak-octet 3))
+    go fits-unready e = let f = judging.not-ready (standardHeard g) (wishesOf (g .wishes)) e in unready (f .0) (f .1) (rw (nak-octet 2))
+    go fits-none e = unfit (judging.no-fit (standardHeard g) (wishesOf (g .wishes)) e) (rw (nak-octet 3))
 
 -- only a message with fields that the reader accepted is heard as one, so it has at most 64 octets
 abbrev asMessage : Sort → Bool
@@ -80,24 +81,24 @@ asMessage (known h) = isMessage h
 asMessage strange = false
 
 message-few : (event : Event) (m : List ℕ) → asMessage (sortOf event m) ≡ true → length m ≤ 64
-message-few (Begin s) m e = never (sym (start-bare s) ∙ e)
-message-few (Tones s) m e = never (sym (signal-bare s) ∙ e)
-message-few Field m e = go (readMessage m listRoom) refl e
+message-few (events.Start s) m e = never e
+message-few (events.Signal s) m e = never e
+message-few events.Field m e = go (readMessage m listRoom) refl e
   where
-    spoilt : (t : Bool) → asMessage (pick t strange (known Spoilt)) ≡ true → length m ≤ 64
+    spoilt : (t : Bool) → asMessage (pick t strange (known heard.Spoilt)) ≡ true → length m ≤ 64
     spoilt true e = never e
     spoilt false e = never e
 
     go : (r : Reading) → readMessage m listRoom ≡ r → asMessage (fieldHeard r m) ≡ true → length m ≤ 64
     go accepted r e = accepted-passed m listRoom r .few
     go (refused k) r e = spoilt (eqb k 3) e
-message-few InvalidFrame m e = never e
-message-few Answer m e = never e
-message-few Reset m e = never e
+message-few events.InvalidFrame m e = never e
+message-few events.AnswerTone m e = never e
+message-few events.Reset m e = never e
 
 judged-few : (p : Phase) (g : Given) {h : Heard} → Passes p g h → actOn p g h ≡ Judge → length (g .field) ≤ 64
 judged-few p g {h} s j =
-    message-few (g .event) (g .field) (ap asMessage (s .heard) ∙ needs-message (kindOf p) (g .set) (ackOf p) h (ap needsField j))
+    message-few (g .event) (g .field) (ap asMessage (s .heard) ∙ needs-message (kindOf p) (g .settings) (ackOf p) h (ap needsField j))
 
 -- so is an MS that a step judges
 pub judged : (p : Phase) (g : Given) {h : Heard} → Passes p g h → actOn p g h ≡ Judge → Judged g (steps p g)
@@ -107,7 +108,7 @@ judged p g {h} s j = let e : steps p g ≡ doing Judge p g = follows p g s ∙ r
 pub unnamed-nak-3 : (p : Phase) (g : Given) {h : Heard} → Passes p g h → actOn p g h ≡ Judge → (x : ℕ) → isIn x (standardHeard g) ≡ true → namedCode x ≡ false
     → steps p g ≡ sends (0x2a ∷ []) [] [] (Initial (g .time))
 unnamed-nak-3 p g s j x i n =
-    let v = judging.unnamed-code x (standardHeard g) (g .run) (tables-good (g .own) (g .run) (s .due .sound .tables) .wishes) i n in
+    let v = judging.unnamed-code x (standardHeard g) (g .wishes) (tables-good (g .own) (g .wishes) (s .due .sound .tables) .wishes) i n in
     follows p g s ∙ rw (j, v, nak-octet 3)
 
 -- ---- Mode is reached by a verdict or by agreement
@@ -115,11 +116,11 @@ unnamed-nak-3 p g s j x i n =
 -- no other act leads there
 leads-mode : (a : Act) (found : Bool) (p : Phase) → isMode (kindOf p) ≡ false → isMode (leadsTo a found (kindOf p)) ≡ true → (a ≡ Judge) ⊎ (a ≡ Agree)
 leads-mode NoRow found p n e = never (sym n ∙ e)
-leads-mode SendMrE found p n e = never e
-leads-mode SendMrD found p n e = never e
+leads-mode (SendSignal MrE) found p n e = never e
+leads-mode (SendSignal MrD) found p n e = never e
+leads-mode (SendSignal CrE) found p n e = never e
+leads-mode (SendSignal CrD) found p n e = never e
 leads-mode CounterMrD found p n e = never e
-leads-mode SendCrE found p n e = never e
-leads-mode SendCrD found p n e = never e
 leads-mode Propose true p n e = never e
 leads-mode Propose false p n e = never e
 leads-mode SendCl found p n e = never e

@@ -13,13 +13,14 @@ use Rattle.choice.proofs.Truths.{never}
 use Rattle.table.specs.declared.Phase.{Phase}
 use Rattle.table.specs.declared.Phase.the-variants.{Initial, Mode}
 use Rattle.table.specs.declared.Kind.the-variants.{AtInitial, AtAskedE, AtAskedD, AtCounter, AtListed, AtHalf}
-use Rattle.table.specs.declared.Heard.the-variants.{GotMs}
+use Rattle.table.specs.declared.Heard.the-variants as heard
 use Rattle.table.specs.declared.Act.the-variants.{NoRow, Judge}
 use Rattle.table.specs.Phases.{kindOf, entryOf, ackOf, isOver}
-use Rattle.table.specs.Among.{isAmong}
+use Rattle.table.specs.Phases.{isAmong}
 use Rattle.table.proofs.Lines.{ms-judged}
 use Rattle.station.specs.Acting.{Outcome, quiet, sends}
-use Rattle.station.specs.Stepping.{isMode, Reply, Did}
+use Rattle.station.specs.Stepping.{Reply, Did}
+use Rattle.table.specs.Phases.{isMode}
 use Rattle.station.specs.declared.Sends.the-variants.{NoSignal}
 use Rattle.demands.specs.Given.{Given, steps, InOctets, Sound, Due, HearsType, HearsSpoilt, standardHeard, isKept}
 use Rattle.demands.specs.Sent.{IsCl, IsField, farSays}
@@ -61,9 +62,9 @@ mode-judged : (p : Phase) (g : Given) → Due p g → HearsType 1 g → isMode (
 mode-judged p g d h m =
     let kinds = AtInitial ∷ AtAskedE ∷ AtAskedD ∷ AtCounter ∷ AtListed ∷ AtHalf ∷ [] in
     by-test (isAmong (kindOf p) kinds)
-    (λ i. judged-at g (d, h) (ms-judged (g .set) (ackOf p) (kindOf p) ∙ rw i))
+    (λ i. judged-at g (d, h) (ms-judged (g .settings) (ackOf p) (kindOf p) ∙ rw i))
     (λ i.
-    let e : steps p g ≡ quiet 10 p = follows p g (hears 1 (d, h)) ∙ rw (ms-judged (g .set) (ackOf p) (kindOf p), i) in
+    let e : steps p g ≡ quiet 10 p = follows p g (hears 1 (d, h)) ∙ rw (ms-judged (g .settings) (ackOf p) (kindOf p), i) in
     never (sym (d .awake) ∙ (rw e at m)))
 
 module _ (c : Call) where

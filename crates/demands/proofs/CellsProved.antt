@@ -18,23 +18,23 @@ use Rattle.table.specs.declared.Phase.the-variants.{Initial, AskedE, AskedD, Li
 use Rattle.table.specs.declared.Kind.{Kind}
 use Rattle.table.specs.declared.Kind.the-variants.{AtInitial, AtAskedE, AtAskedD, AtListsE, AtListsD, AtCounter, AtListed, AtTraded, AtPair, AtHalf, AtProposed, AtMode}
 use Rattle.table.specs.declared.Heard.{Heard}
-use Rattle.table.specs.declared.Heard.the-variants.{GotMs, GotCl, GotClr, GotAck1, GotAck2, GotNak, AnswerTone, HeardMrE, HeardMrD, HeardCrE, HeardCrD}
+use Rattle.table.specs.declared.Heard.the-variants as came
 use Rattle.table.specs.declared.Act.{Act}
 use Rattle.table.specs.declared.Act.the-variants.{NoRow, Propose, SendCl, SendClr, PairClr, Take, Judge, GiveUp}
 use Rattle.table.specs.declared.After.the-variants.{ThenMs, ThenClMs, ThenCl, ThenHalf}
 use Rattle.table.specs.declared.Settings.{Settings}
 use Rattle.table.specs.Phases.{kindOf, ackOf}
 use Rattle.table.specs.Rows.{actOf}
-use Rattle.table.specs.Among.{isAmong}
-use Rattle.table.proofs.Lines.{each, within, IsStart, mr-e, mr-d, cr-e, cr-d, ms, cl, clr, start-only-in-initial, mr-e-answered, mr-d-answered, cr-e-answered, cr-d-answered, ms-judged, cl-taken, clr-taken, ack1-agrees, ack2-never, nak-gives-up, tone-though-asked, tone-unasked}
+use Rattle.table.specs.Phases.{isAmong}
+use Rattle.table.proofs.Lines.{each, within, start-only-in-initial, mr-e-answered, mr-d-answered, cr-e-answered, cr-d-answered, ms-judged, cl-taken, clr-taken, ack1-agrees, ack2-never, nak-gives-up, tone-though-asked, tone-unasked}
 use Rattle.station.specs.Sending.{sentList}
-use Rattle.station.specs.Sorting.{known, strange, sortOf, startHeard, typeHeard}
+use Rattle.station.specs.Sorting.{known, strange, sortOf, typeHeard}
 use Rattle.station.specs.Acting.{Outcome, quiet, sends, farList, storedList}
-use Rattle.station.specs.Stepping.{isMode}
-use Rattle.station.specs.declared.Start.{Start}
-use Rattle.station.specs.declared.Start.the-variants.{MrEFirst, MrDFirst, CrEFirst, CrDFirst, MsFirst, ClFirst, ClrFirst}
+use Rattle.table.specs.Phases.{isMode}
+use Rattle.table.specs.declared.Start.{Start}
+use Rattle.table.specs.declared.Start.the-variants as start
 use Rattle.station.specs.declared.Event.{Event}
-use Rattle.station.specs.declared.Event.the-variants.{Begin, Tones, Field, Answer, Reset}
+use Rattle.station.specs.declared.Event.the-variants as events
 use Rattle.demands.specs.Given.{Given, steps, InOctets, Sound, Due, Passes, actOn, doing, HearsType, standardHeard}
 use Rattle.demands.specs.Sent.{IsField, listNamed}
 use Rattle.demands.specs.Proposals.{SendsMs, SendsClMs, Judged}
@@ -57,7 +57,7 @@ hears {p} {g} kind c =
     record { due = c .0; heard = rw (c .1 .event, c .1 .reads, c .1 .type) }
 
 -- a NAK is of type 8 to 11
-nak-heard : (kind : ℕ) → 8 ≤ kind → typeHeard kind ≡ GotNak
+nak-heard : (kind : ℕ) → 8 ≤ kind → typeHeard kind ≡ came.Nak
 nak-heard kind h =
     rw (ne-eqb kind 1 (λ e. omega arith), ne-eqb kind 2 (λ e. omega arith), ne-eqb kind 3 (λ e. omega arith), ne-eqb kind 4 (λ e. omega arith), ne-eqb kind 5 (λ e. omega arith))
 
@@ -87,13 +87,13 @@ module _ (g : Given) (octets : InOctets g) {p : Phase} where
 
   -- a CL, and a CLR that leads to Traded or to Pair
   cl-at : {h : Heard} → Passes p g h → actOn p g h ≡ SendCl → SendsCl [] (Listed (g .time)) g (steps p g)
-  cl-at s e = (sentList 2 (g .set) (g .own), cl-is-sent g (s .due .sound) octets, acts s SendCl e)
+  cl-at s e = (sentList 2 (g .settings) (g .own), cl-is-sent g (s .due .sound) octets, acts s SendCl e)
 
   traded-at : {h : Heard} → Passes p g h → actOn p g h ≡ SendClr → SendsClr (Traded (g .time)) g (steps p g)
-  traded-at s e = (sentList 3 (g .set) (g .own), clr-is-sent g (s .due .sound) octets, acts s SendClr e)
+  traded-at s e = (sentList 3 (g .settings) (g .own), clr-is-sent g (s .due .sound) octets, acts s SendClr e)
 
   pair-at : {h : Heard} → Passes p g h → actOn p g h ≡ PairClr → SendsClr (Pair (g .time)) g (steps p g)
-  pair-at s e = (sentList 3 (g .set) (g .own), clr-is-sent g (s .due .sound) octets, acts s PairClr e)
+  pair-at s e = (sentList 3 (g .settings) (g .own), clr-is-sent g (s .due .sound) octets, acts s PairClr e)
 
   -- a list is stored, and then comes an MS, a CL and an MS, a CL, or nothing
   module _ {kind : ℕ} (c : ComesMessage kind p g) where
@@ -109,49 +109,39 @@ module _ (g : Given) (octets : InOctets g) {p : Phase} where
     cl-ms-on-list e = (storedList (g .field), list-stored, rw (acts (hears kind c) (Take ThenClMs) e) (cl-ms-go g (c .0 .sound) octets (farHeard g) (storedList (g .field))))
 
     cl-on-list : actOn p g (typeHeard kind) ≡ Take ThenCl → ClOnList (Listed (g .time)) g (steps p g)
-    cl-on-list e = (storedList (g .field), list-stored, (sentList 2 (g .set) (g .own), cl-is-sent g (c .0 .sound) octets, acts (hears kind c) (Take ThenCl) e))
+    cl-on-list e = (storedList (g .field), list-stored, (sentList 2 (g .settings) (g .own), cl-is-sent g (c .0 .sound) octets, acts (hears kind c) (Take ThenCl) e))
 
     half-on-list : actOn p g (typeHeard kind) ≡ Take ThenHalf → Stores g (λ stored. steps p g ≡ sends [] [] stored (Half (g .time)))
     half-on-list e = (storedList (g .field), list-stored, acts (hears kind c) (Take ThenHalf) e)
 
--- each start is one
-is-start : (s : Start) → IsStart (startHeard s)
-is-start MrEFirst = mr-e
-is-start MrDFirst = mr-d
-is-start CrEFirst = cr-e
-is-start CrDFirst = cr-d
-is-start MsFirst = ms
-is-start ClFirst = cl
-is-start ClrFirst = clr
-
 -- a tone is acted on in Proposed alone, asked or not
-tone-elsewhere : (p : Phase) (g : Given) → actOn p g AnswerTone ≡ within (AtProposed ∷ []) (actOn p g AnswerTone) NoRow (kindOf p)
+tone-elsewhere : (p : Phase) (g : Given) → actOn p g came.AnswerTone ≡ within (AtProposed ∷ []) (actOn p g came.AnswerTone) NoRow (kindOf p)
 tone-elsewhere p g = go (ackOf p) (kindOf p)
   where
-    go : (a : Bool) (k : Kind) → actOf k (g .set) a AnswerTone ≡ within (AtProposed ∷ []) (actOf k (g .set) a AnswerTone) NoRow k
-    go a = each (λ (k : Kind). actOf k (g .set) a AnswerTone ≡ within (AtProposed ∷ []) (actOf k (g .set) a AnswerTone) NoRow k) refl refl refl refl refl refl refl refl refl refl refl refl
+    go : (a : Bool) (k : Kind) → actOf k (g .settings) a came.AnswerTone ≡ within (AtProposed ∷ []) (actOf k (g .settings) a came.AnswerTone) NoRow k
+    go a = each (λ (k : Kind). actOf k (g .settings) a came.AnswerTone ≡ within (AtProposed ∷ []) (actOf k (g .settings) a came.AnswerTone) NoRow k) refl refl refl refl refl refl refl refl refl refl refl refl
 
 -- MR_d, CL and CLR do two things in different phases, and nothing in the others
 module _ (set : Settings) (asked : Bool) where
-  mr-d-none : (k : Kind) → isAmong k (AtInitial ∷ AtAskedE ∷ []) ≡ false → actOf k set asked HeardMrD ≡ NoRow
+  mr-d-none : (k : Kind) → isAmong k (AtInitial ∷ AtAskedE ∷ []) ≡ false → actOf k set asked (came.Signal MrD) ≡ NoRow
   mr-d-none =
-      each (λ (k : Kind). isAmong k (AtInitial ∷ AtAskedE ∷ []) ≡ false → actOf k set asked HeardMrD ≡ NoRow)
+      each (λ (k : Kind). isAmong k (AtInitial ∷ AtAskedE ∷ []) ≡ false → actOf k set asked (came.Signal MrD) ≡ NoRow)
       (λ e. never (sym e)) (λ e. never (sym e)) (λ e. refl) (λ e. refl) (λ e. refl) (λ e. refl) (λ e. refl) (λ e. refl) (λ e. refl) (λ e. refl) (λ e. refl) (λ e. refl)
 
-  cl-none : (k : Kind) → isAmong k (AtInitial ∷ AtListsE ∷ AtListsD ∷ AtTraded ∷ AtPair ∷ []) ≡ false → actOf k set asked GotCl ≡ NoRow
+  cl-none : (k : Kind) → isAmong k (AtInitial ∷ AtListsE ∷ AtListsD ∷ AtTraded ∷ AtPair ∷ []) ≡ false → actOf k set asked came.Cl ≡ NoRow
   cl-none =
-      each (λ (k : Kind). isAmong k (AtInitial ∷ AtListsE ∷ AtListsD ∷ AtTraded ∷ AtPair ∷ []) ≡ false → actOf k set asked GotCl ≡ NoRow)
+      each (λ (k : Kind). isAmong k (AtInitial ∷ AtListsE ∷ AtListsD ∷ AtTraded ∷ AtPair ∷ []) ≡ false → actOf k set asked came.Cl ≡ NoRow)
       (λ e. never (sym e)) (λ e. refl) (λ e. refl) (λ e. never (sym e)) (λ e. never (sym e)) (λ e. refl) (λ e. refl) (λ e. never (sym e)) (λ e. never (sym e)) (λ e. refl) (λ e. refl) (λ e. refl)
 
-  clr-none : (k : Kind) → isAmong k (AtInitial ∷ AtListsE ∷ AtListsD ∷ []) ≡ false → actOf k set asked GotClr ≡ NoRow
+  clr-none : (k : Kind) → isAmong k (AtInitial ∷ AtListsE ∷ AtListsD ∷ []) ≡ false → actOf k set asked came.Clr ≡ NoRow
   clr-none =
-      each (λ (k : Kind). isAmong k (AtInitial ∷ AtListsE ∷ AtListsD ∷ []) ≡ false → actOf k set asked GotClr ≡ NoRow)
+      each (λ (k : Kind). isAmong k (AtInitial ∷ AtListsE ∷ AtListsD ∷ []) ≡ false → actOf k set asked came.Clr ≡ NoRow)
       (λ e. never (sym e)) (λ e. refl) (λ e. refl) (λ e. never (sym e)) (λ e. never (sym e)) (λ e. refl) (λ e. refl) (λ e. refl) (λ e. refl) (λ e. refl) (λ e. refl) (λ e. refl)
 
   -- a NAK gives up in every phase but Initial and Mode
-  nak-some : (k : Kind) → isAmong k (AtInitial ∷ []) ≡ false → isMode k ≡ false → actOf k set asked GotNak ≡ GiveUp
+  nak-some : (k : Kind) → isAmong k (AtInitial ∷ []) ≡ false → isMode k ≡ false → actOf k set asked came.Nak ≡ GiveUp
   nak-some =
-      each (λ (k : Kind). isAmong k (AtInitial ∷ []) ≡ false → isMode k ≡ false → actOf k set asked GotNak ≡ GiveUp)
+      each (λ (k : Kind). isAmong k (AtInitial ∷ []) ≡ false → isMode k ≡ false → actOf k set asked came.Nak ≡ GiveUp)
       (λ e m. never (sym e)) (λ e m. refl) (λ e m. refl) (λ e m. refl) (λ e m. refl) (λ e m. refl) (λ e m. refl) (λ e m. refl) (λ e m. refl) (λ e m. refl) (λ e m. refl) (λ e m. never (sym m))
 
 module _ (g : Given) (octets : InOctets g) where
@@ -200,19 +190,19 @@ module _ (g : Given) (octets : InOctets g) where
         proposed-tone = λ t w c. follows (Proposed t w false) g (comes c refl);
         mode-deaf = λ t w a s h. refuses-10-mode (Mode t w a) g s h refl;
         reset = λ p e. reset-first p g (rw e);
-        nak = λ p kind lo hi c n. follows p g (hears kind c) ∙ rw (nak-heard kind lo, nak-some (g .set) (ackOf p) (kindOf p) n (c .0 .awake));
+        nak = λ p kind lo hi c n. follows p g (hears kind c) ∙ rw (nak-heard kind lo, nak-some (g .settings) (ackOf p) (kindOf p) n (c .0 .awake));
         spoilt = λ p d s. spoilt-nak p g d s;
         unknown = λ p c r. refuses-9 p g (c .0) (rw (c .1, r));
-        start-elsewhere = λ p s c n. elsewhere (AtInitial ∷ []) _ (comes c refl) (start-only-in-initial (g .set) (ackOf p) (is-start s) (kindOf p)) n;
-        mr-e-elsewhere = λ p c n. elsewhere (AtInitial ∷ []) _ (comes c refl) (mr-e-answered (g .set) (ackOf p) (kindOf p)) n;
-        mr-d-elsewhere = λ p c n. follows p g (comes c refl) ∙ rw (mr-d-none (g .set) (ackOf p) (kindOf p) n);
-        cr-e-elsewhere = λ p c n. elsewhere (AtInitial ∷ []) _ (comes c refl) (cr-e-answered (g .set) (ackOf p) (kindOf p)) n;
-        cr-d-elsewhere = λ p c n. elsewhere (AtInitial ∷ AtAskedE ∷ AtListsE ∷ AtCounter ∷ []) _ (comes c refl) (cr-d-answered (g .set) (ackOf p) (kindOf p)) n;
-        ms-elsewhere = λ p c n. elsewhere (AtInitial ∷ AtAskedE ∷ AtAskedD ∷ AtCounter ∷ AtListed ∷ AtHalf ∷ []) _ (hears 1 c) (ms-judged (g .set) (ackOf p) (kindOf p)) n;
-        cl-elsewhere = λ p c n. follows p g (hears 2 c) ∙ rw (cl-none (g .set) (ackOf p) (kindOf p) n);
-        clr-elsewhere = λ p c n. follows p g (hears 3 c) ∙ rw (clr-none (g .set) (ackOf p) (kindOf p) n);
-        ack-1-elsewhere = λ p c n. elsewhere (AtProposed ∷ []) _ (hears 4 c) (ack1-agrees (g .set) (ackOf p) (kindOf p)) n;
-        ack-2 = λ p c. follows p g (hears 5 c) ∙ rw (ack2-never (g .set) (ackOf p) (kindOf p));
+        start-elsewhere = λ p s c n. elsewhere (AtInitial ∷ []) _ (comes c refl) (start-only-in-initial (g .settings) (ackOf p) s (kindOf p)) n;
+        mr-e-elsewhere = λ p c n. elsewhere (AtInitial ∷ []) _ (comes c refl) (mr-e-answered (g .settings) (ackOf p) (kindOf p)) n;
+        mr-d-elsewhere = λ p c n. follows p g (comes c refl) ∙ rw (mr-d-none (g .settings) (ackOf p) (kindOf p) n);
+        cr-e-elsewhere = λ p c n. elsewhere (AtInitial ∷ []) _ (comes c refl) (cr-e-answered (g .settings) (ackOf p) (kindOf p)) n;
+        cr-d-elsewhere = λ p c n. elsewhere (AtInitial ∷ AtAskedE ∷ AtListsE ∷ AtCounter ∷ []) _ (comes c refl) (cr-d-answered (g .settings) (ackOf p) (kindOf p)) n;
+        ms-elsewhere = λ p c n. elsewhere (AtInitial ∷ AtAskedE ∷ AtAskedD ∷ AtCounter ∷ AtListed ∷ AtHalf ∷ []) _ (hears 1 c) (ms-judged (g .settings) (ackOf p) (kindOf p)) n;
+        cl-elsewhere = λ p c n. follows p g (hears 2 c) ∙ rw (cl-none (g .settings) (ackOf p) (kindOf p) n);
+        clr-elsewhere = λ p c n. follows p g (hears 3 c) ∙ rw (clr-none (g .settings) (ackOf p) (kindOf p) n);
+        ack-1-elsewhere = λ p c n. elsewhere (AtProposed ∷ []) _ (hears 4 c) (ack1-agrees (g .settings) (ackOf p) (kindOf p)) n;
+        ack-2 = λ p c. follows p g (hears 5 c) ∙ rw (ack2-never (g .settings) (ackOf p) (kindOf p));
         nak-initial = λ t kind lo hi c. follows (Initial t) g (hears kind c) ∙ rw (nak-heard kind lo);
         tone-elsewhere = λ p c n. elsewhere (AtProposed ∷ []) _ (comes c refl) (tone-elsewhere p g) n;
         tone-though-asked = λ t w c. follows (Proposed t w true) g (comes c refl);

@@ -35,7 +35,7 @@ by-equation r r′ e e′ = unique.one-reply e e′
 -- what a call of `step` is given
 abbrev called : Settings → List ℕ → List ℕ → Event → List ℕ → ℕ → List ℕ → List ℕ → Given
 called set own run event m time out store =
-    record { set = set; own = own; run = run; event = event; field = m; time = time; outSize = length out; storeSize = length store }
+    record { settings = set; own = own; wishes = run; event = event; field = m; time = time; outSize = length out; storeSize = length store }
 
 pub demand-one : DemandOne
 demand-one =
@@ -84,10 +84,9 @@ demand-one =
       first-ready = λ run. choice-unique [] unheard run;
       first-common = λ own run far place. choice-unique (standardCodes own) (farCodes far place) run;
       judge-mode = λ run s place. verdict-unique (codesIn Standard s place) (wishesOf run);
-      kind-of = λ phase. by-equation;
-      entry-of = λ phase. by-equation;
-      wish-of = λ phase. by-equation;
-      ack-of = λ phase. by-equation;
+      carried-by = λ phase. by-equation;
+      number-of = λ kind. by-equation;
+      is-mode = λ kind. by-equation;
       is-over = λ kind. by-equation;
       act-of = λ kind set asked heard. by-equation;
       begin = λ time. by-equation;

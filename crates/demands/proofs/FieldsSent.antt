@@ -10,7 +10,7 @@ use Rattle.choice.specs.Choosing.{Far, unheard, heard}
 use Rattle.table.specs.declared.Phase.{Phase}
 use Rattle.table.specs.declared.Heard.{Heard}
 use Rattle.table.specs.declared.Act.{Act}
-use Rattle.table.specs.declared.Act.the-variants.{NoRow, SendMrE, SendMrD, CounterMrD, SendCrE, SendCrD, Propose, SendCl, SendClr, PairClr, Take, Judge, Agree, GiveUp, SendNak1}
+use Rattle.table.specs.declared.Act.the-variants.{NoRow, SendSignal, CounterMrD, Propose, SendCl, SendClr, PairClr, Take, Judge, Agree, GiveUp, SendNak1}
 use Rattle.table.specs.declared.After.the-variants.{ThenMs, ThenClMs, ThenCl, ThenHalf}
 use Rattle.station.specs.Sending.{sentAck}
 use Rattle.station.specs.Acting.{Outcome, farList, asksAck, storedList, judges}
@@ -48,11 +48,8 @@ module _ (p : Phase) (g : Given) (s : Sound g) (octets : InOctets g) where
   act-sends : (a : Act) → Both g (doing a p g)
   unfolding farList
   act-sends NoRow = (nothing refl, nothing refl)
-  act-sends SendMrE = (nothing refl, nothing refl)
-  act-sends SendMrD = (nothing refl, nothing refl)
+  act-sends (SendSignal s) = (nothing refl, nothing refl)
   act-sends CounterMrD = (nothing refl, nothing refl)
-  act-sends SendCrE = (nothing refl, nothing refl)
-  act-sends SendCrD = (nothing refl, nothing refl)
   act-sends Propose = of-ms (λ os x e. ms x e) (ms-goes g s octets unheard [])
   act-sends SendCl = (cl (cl-is-sent g s octets), nothing refl)
   act-sends SendClr = (clr (clr-is-sent g s octets), nothing refl)

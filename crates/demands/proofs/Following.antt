@@ -26,7 +26,8 @@ use Rattle.table.specs.declared.Kind.{Kind}
 use Rattle.table.specs.declared.Kind.the-variants.{AtInitial, AtProposed, AtMode}
 use Rattle.table.specs.declared.Heard.{Heard}
 use Rattle.table.specs.declared.Act.{Act}
-use Rattle.table.specs.declared.Act.the-variants.{NoRow, SendMrE, SendMrD, CounterMrD, SendCrE, SendCrD, Propose, SendCl, SendClr, PairClr, Take, Judge, Agree, GiveUp, SendNak1}
+use Rattle.table.specs.declared.Signal.the-variants.{MrE, MrD, CrE, CrD}
+use Rattle.table.specs.declared.Act.the-variants.{NoRow, SendSignal, CounterMrD, Propose, SendCl, SendClr, PairClr, Take, Judge, Agree, GiveUp, SendNak1}
 use Rattle.table.specs.declared.After.the-variants.{ThenMs, ThenClMs, ThenCl, ThenHalf}
 use Rattle.table.specs.declared.Settings.{Settings}
 use Rattle.table.specs.Phases.{kindOf, entryOf, ackOf, isOver}
@@ -36,17 +37,18 @@ use Rattle.table.proofs.Lines.{each}
 use Rattle.station.specs.Sending.{sentList, noOffer}
 use Rattle.station.specs.Sorting.{Sort, known, strange, sortOf}
 use Rattle.station.specs.Acting.{Outcome, quiet, stays, farList, farOffer, storedList, proposes, proposesBehind, judges}
-use Rattle.station.specs.Stepping.{isMode, isLate, isReset, sorted, timed, checked, stepOf}
+use Rattle.station.specs.Stepping.{isLate, isReset, sorted, timed, checked, stepOf}
+use Rattle.table.specs.Phases.{isMode}
 use Rattle.station.specs.declared.FarOffer.{FarOffer}
 use Rattle.station.proofs.Gating.{time-before, timed-out, in-mode, in-time, small-output, small-store, tables-checked, tabled}
 use Rattle.demands.specs.Given.{Given, steps, Sound, Due, Passes, actOn, doing, standardHeard, isActedOn, isKept, after, Lasts, actedOn}
 
 -- the choice by a far list, and the verdict on the mode heard
 abbrev pub choiceBy : Far → Given → Choosing
-choiceBy far g = choice (standardCodes (g .own)) far (g .run)
+choiceBy far g = choice (standardCodes (g .own)) far (g .wishes)
 
 abbrev pub verdictOn : Given → ℕ
-verdictOn g = verdict (standardHeard g) (wishesOf (g .run))
+verdictOn g = verdict (standardHeard g) (wishesOf (g .wishes))
 
 -- the far list heard, as a step takes it
 abbrev pub farHeard : Given → Far
@@ -65,53 +67,53 @@ module _ (p : Phase) (g : Given) where
   reset-first r = rw r
 
   live-checked : isReset (g .event) ≡ false
-      → steps p g ≡ checked p (g .set) (g .own) (g .run) (g .event) (g .field) (g .time) (g .outSize) (g .storeSize)
+      → steps p g ≡ checked p (g .settings) (g .own) (g .wishes) (g .event) (g .field) (g .time) (g .outSize) (g .storeSize)
   unfolding stepOf
   live-checked r = rw r
 
   -- 1: no room in the output, or in the store
   pub refuses-1-output : isReset (g .event) ≡ false → g .outSize < 128 → steps p g ≡ quiet 1 p
-  refuses-1-output r h = live-checked r ∙ small-output p (g .set) (g .own) (g .run) (g .event) (g .field) (g .time) (g .outSize) (g .storeSize) h
+  refuses-1-output r h = live-checked r ∙ small-output p (g .settings) (g .own) (g .wishes) (g .event) (g .field) (g .time) (g .outSize) (g .storeSize) h
 
   pub refuses-1-store : isReset (g .event) ≡ false → 128 ≤ g .outSize → g .storeSize < 64 → steps p g ≡ quiet 1 p
-  refuses-1-store r h k = live-checked r ∙ small-store p (g .set) (g .own) (g .run) (g .event) (g .field) (g .time) (g .outSize) (g .storeSize) h k
+  refuses-1-store r h k = live-checked r ∙ small-store p (g .settings) (g .own) (g .wishes) (g .event) (g .field) (g .time) (g .outSize) (g .storeSize) h k
 
   module _ (live : isReset (g .event) ≡ false) (output : 128 ≤ g .outSize) (store : 64 ≤ g .storeSize) where
-    by-tables : (t : Tables) → tablesTold t ≡ tablesNo (g .own) (g .run) → steps p g ≡ tabled t p (timed p (g .set) (g .own) (g .run) (g .event) (g .field) (g .time))
-    by-tables t e = live-checked live ∙ tables-checked p (g .set) (g .own) (g .run) (g .event) (g .field) (g .time) (g .outSize) (g .storeSize) output store t e
+    by-tables : (t : Tables) → tablesTold t ≡ tablesNo (g .own) (g .wishes) → steps p g ≡ tabled t p (timed p (g .settings) (g .own) (g .wishes) (g .event) (g .field) (g .time))
+    by-tables t e = live-checked live ∙ tables-checked p (g .settings) (g .own) (g .wishes) (g .event) (g .field) (g .time) (g .outSize) (g .storeSize) output store t e
 
     -- 2, 3 and 4: the tables
     pub refuses-2 : goodField (g .own) ≡ false → steps p g ≡ quiet 2 p
     unfolding tablesNo
     refuses-2 a = by-tables found.BadOwn (rw a)
 
-    pub refuses-3 : goodField (g .own) ≡ true → goodWishes (g .run) ≡ false → steps p g ≡ quiet 3 p
+    pub refuses-3 : goodField (g .own) ≡ true → goodWishes (g .wishes) ≡ false → steps p g ≡ quiet 3 p
     unfolding tablesNo
     refuses-3 a b = by-tables found.BadWishes (rw (a, b))
 
-    pub refuses-4 : goodField (g .own) ≡ true → goodWishes (g .run) ≡ true → allInside (g .own) (wishesOf (g .run)) ≡ false → steps p g ≡ quiet 4 p
+    pub refuses-4 : goodField (g .own) ≡ true → goodWishes (g .wishes) ≡ true → allInside (g .own) (wishesOf (g .wishes)) ≡ false → steps p g ≡ quiet 4 p
     unfolding tablesNo
     refuses-4 a b c = by-tables found.Outside (rw (a, b, c))
 
   module _ (s : Sound g) where
-    by-time : steps p g ≡ timed p (g .set) (g .own) (g .run) (g .event) (g .field) (g .time)
+    by-time : steps p g ≡ timed p (g .settings) (g .own) (g .wishes) (g .event) (g .field) (g .time)
     by-time = by-tables (s .live) (s .output) (s .store) found.Good (sym (s .tables))
 
     -- 5: before the phase was entered
     pub refuses-5 : g .time < entryOf p → steps p g ≡ quiet 5 p
-    refuses-5 h = by-time ∙ time-before p (g .set) (g .own) (g .run) (g .event) (g .field) (g .time) h
+    refuses-5 h = by-time ∙ time-before p (g .settings) (g .own) (g .wishes) (g .event) (g .field) (g .time) h
 
     -- 6: too late
     pub refuses-6 : entryOf p ≤ g .time → isLate (kindOf p) (entryOf p) (g .time) ≡ true → steps p g ≡ quiet 6 (Initial (g .time))
-    refuses-6 h l = by-time ∙ timed-out p (g .set) (g .own) (g .run) (g .event) (g .field) (g .time) h l
+    refuses-6 h l = by-time ∙ timed-out p (g .settings) (g .own) (g .wishes) (g .event) (g .field) (g .time) h l
 
     -- 10 in Mode, whatever the event
     pub refuses-10-mode : entryOf p ≤ g .time → isMode (kindOf p) ≡ true → steps p g ≡ quiet 10 p
     refuses-10-mode h o =
-        by-time ∙ in-mode p (g .set) (g .own) (g .run) (g .event) (g .field) (g .time) h (mode-never-late (kindOf p) (entryOf p) (g .time) o) o
+        by-time ∙ in-mode p (g .settings) (g .own) (g .wishes) (g .event) (g .field) (g .time) h (mode-never-late (kindOf p) (entryOf p) (g .time) o) o
 
-  by-sort : Due p g → steps p g ≡ sorted (sortOf (g .event) (g .field)) p (g .set) (g .own) (g .run) (g .field) (g .time)
-  by-sort d = by-time (d .sound) ∙ in-time p (g .set) (g .own) (g .run) (g .event) (g .field) (g .time) (d .after) (d .prompt) (d .awake)
+  by-sort : Due p g → steps p g ≡ sorted (sortOf (g .event) (g .field)) p (g .settings) (g .own) (g .wishes) (g .field) (g .time)
+  by-sort d = by-time (d .sound) ∙ in-time p (g .settings) (g .own) (g .wishes) (g .event) (g .field) (g .time) (d .after) (d .prompt) (d .awake)
 
   -- 9: a message of unknown type
   pub refuses-9 : Due p g → sortOf (g .event) (g .field) ≡ strange → steps p g ≡ quiet 9 p
@@ -159,7 +161,7 @@ settled-among own far (w ∷ ws) n at = go (suits own far w) (settled-among own 
 
 pub settled : (far : Far) (g : Given) → Settled (choiceBy far g)
 unfolding choice
-settled far g = settled-among (standardCodes (g .own)) far (wishesOf (g .run)) 0 0
+settled far g = settled-among (standardCodes (g .own)) far (wishesOf (g .wishes)) 0 0
 
 -- what holds of 11 and of every success holds of what a choice or a verdict leads to
 module _ (P : Outcome → Type 0) (time : ℕ) (none : (stored : List ℕ) → P (stays 11 stored time)) (done : (o : Outcome) → Success o time → P o) where
@@ -182,18 +184,15 @@ module _ (P : Outcome → Type 0) (time : ℕ) (none : (stored : List ℕ) → P
 of-act : (P : Outcome → Type 0) (p : Phase) (g : Given) → P (quiet 10 p) → ((stored : List ℕ) → P (stays 11 stored (g .time)))
     → ((o : Outcome) → Success o (g .time) → P o) → (a : Act) → P (doing a p g)
 of-act P p g row none done NoRow = row
-of-act P p g row none done SendMrE = ends-now P (g .time) none done _ refl refl
-of-act P p g row none done SendMrD = ends-now P (g .time) none done _ refl refl
+of-act P p g row none done (SendSignal s) = ends-now P (g .time) none done _ refl refl
 of-act P p g row none done CounterMrD = ends-now P (g .time) none done _ refl refl
-of-act P p g row none done SendCrE = ends-now P (g .time) none done _ refl refl
-of-act P p g row none done SendCrD = ends-now P (g .time) none done _ refl refl
-of-act P p g row none done Propose = of-proposal P (g .time) none done (settled unheard g) (g .set) noOffer (g .run) []
+of-act P p g row none done Propose = of-proposal P (g .time) none done (settled unheard g) (g .settings) noOffer (g .wishes) []
 of-act P p g row none done SendCl = ends-now P (g .time) none done _ refl refl
 of-act P p g row none done SendClr = ends-now P (g .time) none done _ refl refl
 of-act P p g row none done PairClr = ends-now P (g .time) none done _ refl refl
-of-act P p g row none done (Take ThenMs) = of-proposal P (g .time) none done (settled (farHeard g) g) (g .set) (farOffer (g .field)) (g .run) (storedList (g .field))
+of-act P p g row none done (Take ThenMs) = of-proposal P (g .time) none done (settled (farHeard g) g) (g .settings) (farOffer (g .field)) (g .wishes) (storedList (g .field))
 of-act P p g row none done (Take ThenClMs) =
-    of-second P (g .time) none done (sentList 2 (g .set) (g .own)) (settled (farHeard g) g) (g .set) (farOffer (g .field)) (g .run) (storedList (g .field))
+    of-second P (g .time) none done (sentList 2 (g .settings) (g .own)) (settled (farHeard g) g) (g .settings) (farOffer (g .field)) (g .wishes) (storedList (g .field))
 of-act P p g row none done (Take ThenCl) = ends-now P (g .time) none done _ refl refl
 of-act P p g row none done (Take ThenHalf) = ends-now P (g .time) none done _ refl refl
 of-act P p g row none done Judge = of-verdict P (g .time) none done (verdictOn g) (g .field)
@@ -229,7 +228,7 @@ module _ (P : Outcome → Type 0) (p : Phase) (g : Given) where
 
       tables : isReset (g .event) ≡ false → 128 ≤ g .outSize → 64 ≤ g .storeSize → P (steps p g)
       tables live output store =
-          told-cases (g .own) (g .run)
+          told-cases (g .own) (g .wishes)
           (λ e. clock (record { live = live; output = output; store = store; tables = e }))
           (λ a. is (refuses-2 p g live output store a) (kept 2 refl))
           (λ a b. is (refuses-3 p g live output store a b) (kept 3 refl))
@@ -269,11 +268,8 @@ isAccepted (suc k) = false
 -- what an act finds, where it looks for something: a choice, or that the mode is accepted
 abbrev pub finds : Act → Given → Bool
 finds NoRow g = false
-finds SendMrE g = false
-finds SendMrD g = false
+finds (SendSignal s) g = false
 finds CounterMrD g = false
-finds SendCrE g = false
-finds SendCrD g = false
 finds Propose g = isChosen (choiceBy unheard g)
 finds SendCl g = false
 finds SendClr g = false
@@ -301,18 +297,18 @@ verdict-leads (suc k) m time = refl
 -- each act leads where the table's bound says
 pub act-leads : (a : Act) (p : Phase) (g : Given) → kindOf (doing a p g .next) ≡ leadsTo a (finds a g) (kindOf p)
 act-leads NoRow p g = refl
-act-leads SendMrE p g = refl
-act-leads SendMrD p g = refl
+act-leads (SendSignal MrE) p g = refl
+act-leads (SendSignal MrD) p g = refl
+act-leads (SendSignal CrE) p g = refl
+act-leads (SendSignal CrD) p g = refl
 act-leads CounterMrD p g = refl
-act-leads SendCrE p g = refl
-act-leads SendCrD p g = refl
-act-leads Propose p g = proposal-leads (choiceBy unheard g) (g .set) noOffer (g .run) [] (g .time)
+act-leads Propose p g = proposal-leads (choiceBy unheard g) (g .settings) noOffer (g .wishes) [] (g .time)
 act-leads SendCl p g = refl
 act-leads SendClr p g = refl
 act-leads PairClr p g = refl
-act-leads (Take ThenMs) p g = proposal-leads (choiceBy (farHeard g) g) (g .set) (farOffer (g .field)) (g .run) (storedList (g .field)) (g .time)
+act-leads (Take ThenMs) p g = proposal-leads (choiceBy (farHeard g) g) (g .settings) (farOffer (g .field)) (g .wishes) (storedList (g .field)) (g .time)
 act-leads (Take ThenClMs) p g =
-    second-leads (sentList 2 (g .set) (g .own)) (choiceBy (farHeard g) g) (g .set) (farOffer (g .field)) (g .run) (storedList (g .field)) (g .time)
+    second-leads (sentList 2 (g .settings) (g .own)) (choiceBy (farHeard g) g) (g .settings) (farOffer (g .field)) (g .wishes) (storedList (g .field)) (g .time)
 act-leads (Take ThenCl) p g = refl
 act-leads (Take ThenHalf) p g = refl
 act-leads Judge p g = verdict-leads (verdictOn g) (g .field) (g .time)
@@ -336,18 +332,15 @@ success-counts time o s = ap isActedOn (s .told)
 -- what is told says whether the act counts
 pub act-told : (a : Act) (p : Phase) (g : Given) → isActedOn (doing a p g .told) ≡ isActed a
 act-told NoRow p g = refl
-act-told SendMrE p g = refl
-act-told SendMrD p g = refl
+act-told (SendSignal s) p g = refl
 act-told CounterMrD p g = refl
-act-told SendCrE p g = refl
-act-told SendCrD p g = refl
-act-told Propose p g = of-proposal Counts (g .time) (λ _. refl) (success-counts (g .time)) (settled unheard g) (g .set) noOffer (g .run) []
+act-told Propose p g = of-proposal Counts (g .time) (λ _. refl) (success-counts (g .time)) (settled unheard g) (g .settings) noOffer (g .wishes) []
 act-told SendCl p g = refl
 act-told SendClr p g = refl
 act-told PairClr p g = refl
-act-told (Take ThenMs) p g = of-proposal Counts (g .time) (λ _. refl) (success-counts (g .time)) (settled (farHeard g) g) (g .set) (farOffer (g .field)) (g .run) (storedList (g .field))
+act-told (Take ThenMs) p g = of-proposal Counts (g .time) (λ _. refl) (success-counts (g .time)) (settled (farHeard g) g) (g .settings) (farOffer (g .field)) (g .wishes) (storedList (g .field))
 act-told (Take ThenClMs) p g =
-    of-second Counts (g .time) (λ _. refl) (success-counts (g .time)) (sentList 2 (g .set) (g .own)) (settled (farHeard g) g) (g .set) (farOffer (g .field)) (g .run) (storedList (g .field))
+    of-second Counts (g .time) (λ _. refl) (success-counts (g .time)) (sentList 2 (g .settings) (g .own)) (settled (farHeard g) g) (g .settings) (farOffer (g .field)) (g .wishes) (storedList (g .field))
 act-told (Take ThenCl) p g = refl
 act-told (Take ThenHalf) p g = refl
 act-told Judge p g = of-verdict Counts (g .time) (λ _. refl) (success-counts (g .time)) (verdictOn g) (g .field)
@@ -358,11 +351,8 @@ act-told SendNak1 p g = refl
 -- an act that does not count leads nowhere
 idle-stays : (a : Act) (found : Bool) (k : Kind) → isActed a ≡ false → leadsTo a found k ≡ k
 idle-stays NoRow found k e = refl
-idle-stays SendMrE found k e = never (sym e)
-idle-stays SendMrD found k e = never (sym e)
+idle-stays (SendSignal s) found k e = never (sym e)
 idle-stays CounterMrD found k e = never (sym e)
-idle-stays SendCrE found k e = never (sym e)
-idle-stays SendCrD found k e = never (sym e)
 idle-stays Propose found k e = never (sym e)
 idle-stays SendCl found k e = never (sym e)
 idle-stays SendClr found k e = never (sym e)
@@ -398,7 +388,7 @@ act-turn p g h n on t =
     by-test (isActed (actOn p g h))
     (λ acted.
     record {
-      turns = record { heard = h; set = g .set; asked = ackOf p; found = finds (actOn p g h) g } ∷ t .turns;
+      turns = record { heard = h; set = g .settings; asked = ackOf p; found = finds (actOn p g h) g } ∷ t .turns;
       goes = (acted, rw e at on, rw e at (t .goes));
       count = omega (arith, t .count, ap num acted);
     })

@@ -26,11 +26,11 @@ use Rattle.table.specs.declared.Kind.{Kind}
 use Rattle.table.specs.declared.Kind.the-variants.{AtProposed}
 use Rattle.table.specs.declared.Heard.{Heard}
 use Rattle.table.specs.declared.Act.{Act}
-use Rattle.table.specs.declared.Act.the-variants.{NoRow, SendMrE, SendMrD, CounterMrD, SendCrE, SendCrD, Propose, SendCl, SendClr, PairClr, Take, Judge, Agree, GiveUp, SendNak1}
+use Rattle.table.specs.declared.Act.the-variants.{NoRow, SendSignal, CounterMrD, Propose, SendCl, SendClr, PairClr, Take, Judge, Agree, GiveUp, SendNak1}
 use Rattle.table.specs.declared.After.the-variants.{ThenMs, ThenClMs, ThenCl, ThenHalf}
 use Rattle.table.specs.declared.Settings.{Settings}
 use Rattle.table.specs.Phases.{kindOf}
-use Rattle.table.specs.Among.{isAmong}
+use Rattle.table.specs.Phases.{isAmong}
 use Rattle.station.specs.Sending.{sentList, noOffer, modeOffer, sentMode}
 use Rattle.station.specs.Acting.{Outcome, quiet, sends, stays, farList, farOffer, storedList, proposes, proposesBehind, judges}
 use Rattle.station.specs.declared.FarOffer.{FarOffer}
@@ -43,8 +43,8 @@ use Rattle.demands.proofs.SentFields.{all-offers, list-is-sent, mode-is
 -- ---- what is proposed
 
 -- with no far list an MS says neither V.8 nor Short V.8
-offers-none : (set : Settings) → (modeOffer set noOffer .eight ≡ false) × (modeOffer set noOffer .short ≡ false)
-offers-none set = (rw (both-false (set .eight)) (both-false (not (both (set .short) false))), both-false (set .short))
+offers-none : (set : Settings) → (modeOffer set noOffer .v8 ≡ false) × (modeOffer set noOffer .«short_v8» ≡ false)
+offers-none set = (rw (both-false (set .v8)) (both-false (not (both (set .«short_v8») false))), both-false (set .«short_v8»))
 
 -- what the far side offers, as its list says it
 abbrev offerBy : Far → Given → FarOffer
@@ -53,47 +53,47 @@ offerBy (heard list) g = farOffer (g .field)
 
 module _ (g : Given) (tables : Sound g) (octets : InOctets g) where
   -- the own table and each wish are good
-  wish-good : {far : Far} {p : Pick} (f : First (standardCodes (g .own)) far (g .run) p) → goodField (f .wish .field) ≡ true
-  wish-good f = tables-good (g .own) (g .run) (tables .tables) .field (f .wish) (first-member f)
+  wish-good : {far : Far} {p : Pick} (f : First (standardCodes (g .own)) far (g .wishes) p) → goodField (f .wish .field) ≡ true
+  wish-good f = tables-good (g .own) (g .wishes) (tables .tables) .field (f .wish) (first-member f)
 
   own-good : goodField (g .own) ≡ true
-  own-good = tables-good (g .own) (g .run) (tables .tables) .table
+  own-good = tables-good (g .own) (g .wishes) (tables .tables) .table
 
-  pub cl-is-sent : IsCl g (sentList 2 (g .set) (g .own))
-  cl-is-sent = list-is-sent 2 (g .set) (g .own) (omega arith) (omega arith) (octets .own) own-good
+  pub cl-is-sent : IsCl g (sentList 2 (g .settings) (g .own))
+  cl-is-sent = list-is-sent 2 (g .settings) (g .own) (omega arith) (omega arith) (octets .own) own-good
 
-  pub clr-is-sent : IsClr g (sentList 3 (g .set) (g .own))
-  clr-is-sent = list-is-sent 3 (g .set) (g .own) (omega arith) (omega arith) (octets .own) own-good
+  pub clr-is-sent : IsClr g (sentList 3 (g .settings) (g .own))
+  clr-is-sent = list-is-sent 3 (g .settings) (g .own) (omega arith) (omega arith) (octets .own) own-good
 
   -- the MS of a wish that was chosen
-  ms-is-sent : (far : Far) {p : Pick} (f : First (standardCodes (g .own)) far (g .run) p) → IsMs far g (f .wish) (sentMode (g .set) (offerBy far g) (g .run) p)
+  ms-is-sent : (far : Far) {p : Pick} (f : First (standardCodes (g .own)) far (g .wishes) p) → IsMs far g (f .wish) (sentMode (g .settings) (offerBy far g) (g .wishes) p)
   unfolding farOffer
   ms-is-sent unheard {p} f =
-      rw (offers-none (g .set) .0, offers-none (g .set) .1) at
-      (mode-is-sent (standardCodes (g .own)) unheard (g .set) noOffer (g .run) p f (octets .run) (wish-good f))
-  ms-is-sent (heard list) {p} f = mode-is-sent (standardCodes (g .own)) (heard list) (g .set) (farOffer (g .field)) (g .run) p f (octets .run) (wish-good f)
+      rw (offers-none (g .settings) .0, offers-none (g .settings) .1) at
+      (mode-is-sent (standardCodes (g .own)) unheard (g .settings) noOffer (g .wishes) p f (octets .wishes) (wish-good f))
+  ms-is-sent (heard list) {p} f = mode-is-sent (standardCodes (g .own)) (heard list) (g .settings) (farOffer (g .field)) (g .wishes) p f (octets .wishes) (wish-good f)
 
   abbrev proposal : (far : Far) (p : Pick) → choiceBy far g ≡ chosen p → Proposal far g
   proposal far p e =
-      let f = chosen-first (standardCodes (g .own)) far (g .run) p e in
-      record { pick = p; chosen = f; ms = sentMode (g .set) (offerBy far g) (g .run) p; sent = ms-is-sent far f }
+      let f = chosen-first (standardCodes (g .own)) far (g .wishes) p e in
+      record { pick = p; chosen = f; ms = sentMode (g .settings) (offerBy far g) (g .wishes) p; sent = ms-is-sent far f }
 
   -- so a choice that is sent as MS, alone or behind a CL, is the first wish that suits; where there is none, none does
   module _ (far : Far) (stored : List ℕ) where
-    pub ms-goes : SendsMs far stored g (proposes (choiceBy far g) (g .set) (offerBy far g) (g .run) stored (g .time))
+    pub ms-goes : SendsMs far stored g (proposes (choiceBy far g) (g .settings) (offerBy far g) (g .wishes) stored (g .time))
     ms-goes = go (settled far g) refl
       where
-        go : {c : Choosing} → Settled c → choiceBy far g ≡ c → SendsMs far stored g (proposes c (g .set) (offerBy far g) (g .run) stored (g .time))
+        go : {c : Choosing} → Settled c → choiceBy far g ≡ c → SendsMs far stored g (proposes c (g .settings) (offerBy far g) (g .wishes) stored (g .time))
         go (one p) e = ms-first (proposal far p e) refl
-        go eleven e = ms-none (no-choice (standardCodes (g .own)) far (g .run) .0 e) refl
+        go eleven e = ms-none (no-choice (standardCodes (g .own)) far (g .wishes) .0 e) refl
 
-    pub cl-ms-go : SendsClMs far stored g (proposesBehind (sentList 2 (g .set) (g .own)) (choiceBy far g) (g .set) (offerBy far g) (g .run) stored (g .time))
+    pub cl-ms-go : SendsClMs far stored g (proposesBehind (sentList 2 (g .settings) (g .own)) (choiceBy far g) (g .settings) (offerBy far g) (g .wishes) stored (g .time))
     cl-ms-go = go (settled far g) refl
       where
         go : {c : Choosing} → Settled c → choiceBy far g ≡ c
-            → SendsClMs far stored g (proposesBehind (sentList 2 (g .set) (g .own)) c (g .set) (offerBy far g) (g .run) stored (g .time))
-        go (one p) e = cl-ms-first (proposal far p e) (sentList 2 (g .set) (g .own)) cl-is-sent refl
-        go eleven e = cl-ms-none (no-choice (standardCodes (g .own)) far (g .run) .0 e) refl
+            → SendsClMs far stored g (proposesBehind (sentList 2 (g .settings) (g .own)) c (g .settings) (offerBy far g) (g .wishes) stored (g .time))
+        go (one p) e = cl-ms-first (proposal far p e) (sentList 2 (g .settings) (g .own)) cl-is-sent refl
+        go eleven e = cl-ms-none (no-choice (standardCodes (g .own)) far (g .wishes) .0 e) refl
 
 -- ---- what a choice tells
 
@@ -112,11 +112,11 @@ module _ (far : Far) (g : Given) where
 
   -- 11 exactly where no wish suits
   told-none : (toldBy (choiceBy far g) ≡ 11) ↔ NoneSuits far g
-  told-none = (go (settled far g) refl, λ n. ap toldBy (no-choice (standardCodes (g .own)) far (g .run) .1 n))
+  told-none = (go (settled far g) refl, λ n. ap toldBy (no-choice (standardCodes (g .own)) far (g .wishes) .1 n))
     where
       go : {c : Choosing} → Settled c → choiceBy far g ≡ c → toldBy c ≡ 11 → NoneSuits far g
       go (one p) e t = absurd (omega arith)
-      go eleven e t = no-choice (standardCodes (g .own)) far (g .run) .0 e
+      go eleven e t = no-choice (standardCodes (g .own)) far (g .wishes) .0 e
 
 alone-told : (c : Choosing) (set : Settings) (far : FarOffer) (run stored : List ℕ) (time : ℕ) → proposes c set far run stored time .told ≡ toldBy c
 alone-told (chosen p) set far run stored time = refl
@@ -131,9 +131,9 @@ behind-told list (refused n) set far run stored time = refl
 module _ (p : Phase) (g : Given) where
   act-told : {a : Act} {far : Far} → Proposing g a far → doing a p g .told ≡ toldBy (choiceBy far g)
   unfolding farList
-  act-told at-once = alone-told (choiceBy unheard g) (g .set) noOffer (g .run) [] (g .time)
-  act-told on-list = alone-told (choiceBy (farHeard g) g) (g .set) (farOffer (g .field)) (g .run) (storedList (g .field)) (g .time)
-  act-told behind-list = behind-told (sentList 2 (g .set) (g .own)) (choiceBy (farHeard g) g) (g .set) (farOffer (g .field)) (g .run) (storedList (g .field)) (g .time)
+  act-told at-once = alone-told (choiceBy unheard g) (g .settings) noOffer (g .wishes) [] (g .time)
+  act-told on-list = alone-told (choiceBy (farHeard g) g) (g .settings) (farOffer (g .field)) (g .wishes) (storedList (g .field)) (g .time)
+  act-told behind-list = behind-told (sentList 2 (g .settings) (g .own)) (choiceBy (farHeard g) g) (g .settings) (farOffer (g .field)) (g .wishes) (storedList (g .field)) (g .time)
 
 -- the wish, how its MS stands, and the next phase
 abbrev pub ProposedFirst : Far → Given → Outcome → Type 0
@@ -202,11 +202,8 @@ record Found (g : Given) (a : Act) : Type 0 where
 -- every act proposes or is another
 act-cases : (p : Phase) (g : Given) (a : Act) → Found g a ⊎ Other (doing a p g)
 act-cases p g NoRow = inr (idle-other (doing NoRow p g) refl)
-act-cases p g SendMrE = inr (other (doing SendMrE p g) refl refl)
-act-cases p g SendMrD = inr (other (doing SendMrD p g) refl refl)
+act-cases p g (SendSignal s) = inr (other (doing (SendSignal s) p g) refl refl)
 act-cases p g CounterMrD = inr (other (doing CounterMrD p g) refl refl)
-act-cases p g SendCrE = inr (other (doing SendCrE p g) refl refl)
-act-cases p g SendCrD = inr (other (doing SendCrD p g) refl refl)
 act-cases p g Propose = inl (record { far = unheard; acts = at-once })
 act-cases p g SendCl = inr (other (doing SendCl p g) refl refl)
 act-cases p g SendClr = inr (other (doing SendClr p g) refl refl)
@@ -242,7 +239,7 @@ module _ (p : Phase) (g : Given) where
 
 -- it lies in the own table
 pub proposed-own : (far : Far) (g : Given) → Sound g → (x : Proposal far g) → allIn (wishCodes (x .chosen .wish)) (standardCodes (g .own)) ≡ true
-proposed-own far g s x = tables-good (g .own) (g .run) (s .tables) .inside (x .chosen .wish) (first-member (x .chosen))
+proposed-own far g s x = tables-good (g .own) (g .wishes) (s .tables) .inside (x .chosen .wish) (first-member (x .chosen))
 
 -- and, where a list was heard, in that list
 pub proposed-common : (list : List ℕ) (g : Given) (x : Proposal (heard list) g) → allIn (wishCodes (x .chosen .wish)) list ≡ true
@@ -282,14 +279,14 @@ not-true false = (λ e. refl, λ e. refl)
 
 module _ (list : List ℕ) (g : Given) (w : Wish) (ms : List ℕ) (x : IsMs (heard list) g w ms) where
   -- after a far list Short V.8 is said exactly if both sides offer it
-  pub short-if-both : (isIn (codeOf 1 0 0 2) (messageCodes ms) ≡ true) ↔ ((g .set .short ≡ true) × (farSays 2 g ≡ true))
-  short-if-both = rw (short-in w x) (both-hold (g .set .short) (farSays 2 g))
+  pub short-if-both : (isIn (codeOf 1 0 0 2) (messageCodes ms) ≡ true) ↔ ((g .settings .«short_v8» ≡ true) × (farSays 2 g ≡ true))
+  short-if-both = rw (short-in w x) (both-hold (g .settings .«short_v8») (farSays 2 g))
 
   -- and V.8 exactly if both do, and not both Short V.8
-  pub eight-if-both : (isIn (codeOf 1 0 0 1) (messageCodes ms) ≡ true) ↔ ((g .set .eight ≡ true) × (farSays 1 g ≡ true) × (bothShort g ≡ false))
+  pub eight-if-both : (isIn (codeOf 1 0 0 1) (messageCodes ms) ≡ true) ↔ ((g .settings .v8 ≡ true) × (farSays 1 g ≡ true) × (bothShort g ≡ false))
   eight-if-both =
       let outer = both-hold (not (bothShort g)) (bothEight g) in
-      let inner = both-hold (g .set .eight) (farSays 1 g) in
+      let inner = both-hold (g .settings .v8) (farSays 1 g) in
       rw (eight-in w x) (
         λ e. let o = outer .0 e in let i = inner .0 (o .1) in (i .0, i .1, not-true (bothShort g) .0 (o .0)),
         λ h. outer .1 (not-true (bothShort g) .1 (h .2), inner .1 (h .0, h .1)),

@@ -23,7 +23,7 @@ use Rattle.names.specs.Named.{namedCode}
 use Rattle.names.specs.Masks.{only}
 use Rattle.strike.specs.Striking.{struckCodes, struckForm}
 use Rattle.table.specs.declared.Phase.{Phase}
-use Rattle.table.specs.declared.Heard.the-variants.{Spoilt}
+use Rattle.table.specs.declared.Heard.the-variants as heard
 use Rattle.table.specs.declared.Settings.{Settings}
 use Rattle.station.specs.Sorting.{known, strange, sortOf}
 use Rattle.station.specs.Stepping.{sorted, timed, checked, stepOf}
@@ -100,9 +100,9 @@ module _ (o o′ : ℕ) (l : List ℕ) (q : typeOf (o ∷ l) ≡ typeOf (o′ �
     refused-alike : (k : ℕ) → readMessage m listRoom ≡ refused k → sorted (sortOf Field m) p set own run m time ≡ sorted (sortOf Field m′) p set own run m′ time
     refused-alike k r = rw (← same-reading o o′ q l listRoom, r) (go (eqb k 3))
       where
-        go : (t : Bool) → sorted (pick t strange (known Spoilt)) p set own run m time ≡ sorted (pick t strange (known Spoilt)) p set own run m′ time
+        go : (t : Bool) → sorted (pick t strange (known heard.Spoilt)) p set own run m time ≡ sorted (pick t strange (known heard.Spoilt)) p set own run m′ time
         go true = refl
-        go false = heard-blind p set own run m m′ time Spoilt refl
+        go false = heard-blind p set own run m m′ time heard.Spoilt refl
 
     -- well-formed or not, they lead to the same step
     pub revisions-answered : stepOf p set own run Field m time outSize storeSize ≡ stepOf p set own run Field m′ time outSize storeSize

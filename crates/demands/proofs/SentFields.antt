@@ -118,12 +118,12 @@ offer-before l =
     all-offers (λ (eight short ack : Bool). offered eight short ack ++ l ≡ says 1 eight ++ (says 2 short ++ (says 4 ack ++ l)))
     refl refl refl refl refl refl refl refl
 
-offer-codes : (offer : Offer) → offerCodes offer ≡ offered (offer .eight) (offer .short) (offer .ack)
+offer-codes : (offer : Offer) → offerCodes offer ≡ offered (offer .v8) (offer .«short_v8») (offer .ack)
 unfolding offerCodes
 offer-codes offer =
     all-offers
     (λ (eight short ack : Bool). codeIf eight (codeOf 1 0 0 1) (codeIf short (codeOf 1 0 0 2) (codeIf ack (codeOf 1 0 0 4) [])) ≡ offered eight short ack)
-    refl refl refl refl refl refl refl refl (offer .eight) (offer .short) (offer .ack)
+    refl refl refl refl refl refl refl refl (offer .v8) (offer .«short_v8») (offer .ack)
 
 -- neither of two lists has a number: it is not in both together
 in-neither : (x : ℕ) (a r : List ℕ) → isIn x a ≡ false → isIn x r ≡ false → isIn x (a ++ r) ≡ false
@@ -145,7 +145,7 @@ module _ (kind : ℕ) (offer : Offer) (own : List ℕ) (lo : 0 < kind) (hi : kin
   codes = standardCodes own
 
   abbrev all : List ℕ
-  all = offered (offer .eight) (offer .short) (offer .ack) ++ codes
+  all = offered (offer .v8) (offer .«short_v8») (offer .ack) ++ codes
 
   -- the codes of a good field are a meaning's
   own-means : Meant (fieldBase 2) codes
@@ -155,9 +155,9 @@ module _ (kind : ℕ) (offer : Offer) (own : List ℕ) (lo : 0 < kind) (hi : kin
   sent-written : writeMessage kind 2 all [] 64 ≡ sent (sentField kind offer codes)
   unfolding sentField nsAgrees
   sent-written =
-      let j = meaning-join (offered (offer .eight) (offer .short) (offer .ack)) codes (offer-means (offer .eight) (offer .short) (offer .ack)) own-means in
+      let j = meaning-join (offered (offer .v8) (offer .«short_v8») (offer .ack)) codes (offer-means (offer .v8) (offer .«short_v8») (offer .ack)) own-means in
       let bare : isIn (codeOf 1 0 0 7) all ≡ false =
-      in-neither (codeOf 1 0 0 7) (offered (offer .eight) (offer .short) (offer .ack)) codes (offer-bare (offer .eight) (offer .short) (offer .ack)) (standard-high (codeOf 1 0 0 7) own (omega arith)) in
+      in-neither (codeOf 1 0 0 7) (offered (offer .v8) (offer .«short_v8») (offer .ack)) codes (offer-bare (offer .v8) (offer .«short_v8») (offer .ack)) (standard-high (codeOf 1 0 0 7) own (omega arith)) in
       writable-sent kind 2 all [] 64 (sentField kind offer codes)
       (record {
         space = omega arith;
@@ -173,24 +173,24 @@ module _ (kind : ℕ) (offer : Offer) (own : List ℕ) (lo : 0 < kind) (hi : kin
       })
 
   -- so it is read as it was meant
-  pub field-is-sent : IsSent kind (offer .eight) (offer .short) (offer .ack) codes (sentField kind offer codes)
+  pub field-is-sent : IsSent kind (offer .v8) (offer .«short_v8») (offer .ack) codes (sentField kind offer codes)
   field-is-sent =
       let w = sent-written in
       let t = written-is-read kind 2 all [] 64 448 (sentField kind offer codes) w (omega arith) in
-      record { read = rw (offer-before codes (offer .eight) (offer .short) (offer .ack)) at t; minimal = written-is-minimal kind 2 all [] 64 (sentField kind offer codes) w }
+      record { read = rw (offer-before codes (offer .v8) (offer .«short_v8») (offer .ack)) at t; minimal = written-is-minimal kind 2 all [] 64 (sentField kind offer codes) w }
 
 -- ---- what a step sends and stores
 
 -- a CL (2) or a CLR (3) has the settings' V.8 bits and the own table
 pub list-is-sent : (kind : ℕ) (set : Settings) (own : List ℕ) → 0 < kind → kind ≤ 3 → AreOctets own → goodField own ≡ true
-    → IsSent kind (set .eight) (set .short) false (standardCodes own) (sentList kind set own)
+    → IsSent kind (set .v8) (set .«short_v8») false (standardCodes own) (sentList kind set own)
 unfolding sentList
 list-is-sent kind set own lo hi octets good = field-is-sent kind (listOffer set) own lo hi octets good
 
 -- an MS has the wish that was chosen
 pub mode-is-sent : (own : List ℕ) (far : Far) (set : Settings) (offer : FarOffer) (wishes : List ℕ) (p : Pick) (f : First own far wishes p) → AreOctets wishes
     → goodField (f .wish .field) ≡ true
-    → IsSent 1 (modeOffer set offer .eight) (modeOffer set offer .short) (set .ack) (wishCodes (f .wish)) (sentMode set offer wishes p)
+    → IsSent 1 (modeOffer set offer .v8) (modeOffer set offer .«short_v8») (set .ack) (wishCodes (f .wish)) (sentMode set offer wishes p)
 unfolding sentMode
 mode-is-sent own far set offer wishes p f octets good =
     let o : AreOctets (f .wish .field) = rw (f .field) at (part-octets (p .at) (p .length) wishes octets (f .inside)) in

@@ -17,22 +17,24 @@ use Rattle.table.specs.declared.Phase.the-variants.{Initial}
 use Rattle.table.specs.declared.Kind.{Kind}
 use Rattle.table.specs.declared.Kind.the-variants.{AtMode}
 use Rattle.table.specs.declared.Heard.{Heard}
-use Rattle.table.specs.declared.Heard.the-variants.{AnswerTone, Spoilt}
+use Rattle.table.specs.declared.Heard.the-variants as heard
 use Rattle.table.specs.declared.Act.{Act}
-use Rattle.table.specs.declared.Act.the-variants.{NoRow, SendMrE, SendMrD, CounterMrD, SendCrE, SendCrD, Propose, SendCl, SendClr, PairClr, Take, Judge, Agree, GiveUp, SendNak1}
+use Rattle.table.specs.declared.Act.the-variants.{NoRow, SendSignal, CounterMrD, Propose, SendCl, SendClr, PairClr, Take, Judge, Agree, GiveUp, SendNak1}
 use Rattle.table.specs.declared.Settings.{Settings}
 use Rattle.table.specs.Phases.{kindOf, entryOf, ackOf, isOver}
 use Rattle.table.specs.Rows.{actOf}
 use Rattle.table.proofs.Lines.{each, within, spoilt-gets-nak1}
-use Rattle.station.specs.Sorting.{known, sortOf, startHeard, signalHeard}
+use Rattle.station.specs.Sorting.{known, sortOf}
 use Rattle.station.specs.Acting.{Outcome, quiet, sends, does}
-use Rattle.station.specs.Stepping.{longest, isMode, toldNo, Reply, sorted, timed, checked, stepOf, Did}
-use Rattle.station.specs.Inner.{isMessage, needsField}
+use Rattle.station.specs.Stepping.{longest, toldNo, Reply, sorted, timed, checked, stepOf, Did}
+use Rattle.table.specs.Phases.{isMode}
+use Rattle.table.specs.Inner.{isMessage, needsField}
 use Rattle.station.specs.declared.Event.{Event}
-use Rattle.station.specs.declared.Event.the-variants.{Begin, Tones, Field, InvalidFrame, Answer, Reset}
+use Rattle.station.specs.declared.Event.the-variants as events
 use Rattle.station.specs.declared.Sends.the-variants.{NoSignal}
 use Rattle.station.specs.declared.Stepped.{Stepped}
-use Rattle.station.proofs.Needing.{bare-needs, hears-spoilt, start-bare, signal-bare}
+use Rattle.table.proofs.Needing.{bare-needs}
+use Rattle.station.proofs.Needing.{hears-spoilt}
 use Rattle.station.proofs.Sendings.{nak-octet}
 use Rattle.demands.specs.Given.{Given, steps, Sound, Due, HearsSpoilt, isActedOn}
 use Rattle.demands.proofs.Following.{refuses-6, follows, of-outcome}
@@ -40,21 +42,18 @@ use Rattle.demands.proofs.Following.{refuses-6, follows, of-outcome}
 -- ---- the field is looked at only for Field
 
 abbrev pub isField : Event → Bool
-isField (Begin s) = false
-isField (Tones s) = false
-isField Field = true
-isField InvalidFrame = false
-isField Answer = false
-isField Reset = false
+isField (events.Start s) = false
+isField (events.Signal s) = false
+isField events.Field = true
+isField events.InvalidFrame = false
+isField events.AnswerTone = false
+isField events.Reset = false
 
 module _ (p : Phase) (set : Settings) (own run m m′ : List ℕ) (time : ℕ) where
   act-blind : (a : Act) → needsField a ≡ false → does a p set own run m time ≡ does a p set own run m′ time
   act-blind NoRow e = refl
-  act-blind SendMrE e = refl
-  act-blind SendMrD e = refl
+  act-blind (SendSignal s) e = refl
   act-blind CounterMrD e = refl
-  act-blind SendCrE e = refl
-  act-blind SendCrD e = refl
   act-blind Propose e = refl
   act-blind SendCl e = refl
   act-blind SendClr e = refl
@@ -69,12 +68,12 @@ module _ (p : Phase) (set : Settings) (own run m m′ : List ℕ) (time : ℕ) w
   heard-blind h e = act-blind (actOf (kindOf p) set (ackOf p) h) (bare-needs (kindOf p) set (ackOf p) h e)
 
   sort-blind : (event : Event) → isField event ≡ false → sorted (sortOf event m) p set own run m time ≡ sorted (sortOf event m′) p set own run m′ time
-  sort-blind (Begin s) e = heard-blind (startHeard s) (start-bare s)
-  sort-blind (Tones s) e = heard-blind (signalHeard s) (signal-bare s)
-  sort-blind Field e = never (sym e)
-  sort-blind InvalidFrame e = heard-blind Spoilt refl
-  sort-blind Answer e = heard-blind AnswerTone refl
-  sort-blind Reset e = refl
+  sort-blind (events.Start s) e = heard-blind (heard.Start s) refl
+  sort-blind (events.Signal s) e = heard-blind (heard.Signal s) refl
+  sort-blind events.Field e = never (sym e)
+  sort-blind events.InvalidFrame e = heard-blind heard.Spoilt refl
+  sort-blind events.AnswerTone e = heard-blind heard.AnswerTone refl
+  sort-blind events.Reset e = refl
 
   -- for any other event it makes no difference what is lent as the field
   pub field-unlooked : (event : Event) (outSize storeSize : ℕ) → isField event ≡ false
@@ -86,7 +85,7 @@ module _ (p : Phase) (set : Settings) (own run m m′ : List ℕ) (time : ℕ) w
 
 -- it gives Initial, whatever else is given
 pub reset-initial : (p : Phase) (set : Settings) (own run m : List ℕ) (time outSize storeSize : ℕ)
-    → stepOf p set own run Reset m time outSize storeSize ≡ quiet 0 (Initial time)
+    → stepOf p set own run events.Reset m time outSize storeSize ≡ quiet 0 (Initial time)
 unfolding stepOf
 reset-initial p set own run m time outSize storeSize = refl
 
@@ -120,10 +119,10 @@ awake-nak =
     (λ e. refl) (λ e. refl) (λ e. refl) (λ e. refl) (λ e. refl) (λ e. refl) (λ e. refl) (λ e. refl) (λ e. refl) (λ e. refl) (λ e. refl) (λ e. never (sym e))
 
 module _ (p : Phase) (g : Given) (d : Due p g) where
-  nak-sent : sortOf (g .event) (g .field) ≡ known Spoilt → steps p g ≡ sends (0x28 ∷ []) [] [] (Initial (g .time))
+  nak-sent : sortOf (g .event) (g .field) ≡ known heard.Spoilt → steps p g ≡ sends (0x28 ∷ []) [] [] (Initial (g .time))
   nak-sent e =
       follows p g (record { due = d; heard = e })
-      ∙ rw (spoilt-gets-nak1 (g .set) (ackOf p) (kindOf p) ∙ awake-nak (kindOf p) (d .awake), nak-octet 1)
+      ∙ rw (spoilt-gets-nak1 (g .settings) (ackOf p) (kindOf p) ∙ awake-nak (kindOf p) (d .awake), nak-octet 1)
 
   field-spoilt : (k : ℕ) → g .event ≡ Field → readMessage (g .field) 448 ≡ refused k → eqb k 3 ≡ false → steps p g ≡ sends (0x28 ∷ []) [] [] (Initial (g .time))
   field-spoilt k e r other = nak-sent (rw e (hears-spoilt (g .field) k r other .0))

@@ -39,7 +39,7 @@ use Rattle.choice.specs.Wishes.{wishesOf}
 use Rattle.choice.specs.Judging.{verdict}
 use Rattle.table.specs.declared.Phase.{Phase}
 use Rattle.table.specs.declared.Kind.{Kind}
-use Rattle.table.specs.declared.Heard.the-variants.{GotMs, GotCl, GotClr, GotAck1, GotAck2, GotNak}
+use Rattle.table.specs.declared.Heard.the-variants as heard
 use Rattle.table.specs.declared.Act.{Act}
 use Rattle.table.specs.declared.Act.the-variants.{NoRow, Take, Judge}
 use Rattle.table.specs.declared.After.{After}
@@ -86,17 +86,17 @@ module _ (m m′ : List ℕ) (few : length m ≤ mostOctets) (few′ : length m�
 
 -- an MS is judged or not acted on; a CL and a CLR are taken or not acted on
 module _ (P : Act → Type 0) (set : Settings) (asked : Bool) (none : P NoRow) where
-  of-ms : P Judge → (k : Kind) → P (actOf k set asked GotMs)
-  of-ms judge = each (λ (k : Kind). P (actOf k set asked GotMs)) judge judge judge none none judge judge none none judge none none
+  of-ms : P Judge → (k : Kind) → P (actOf k set asked heard.Ms)
+  of-ms judge = each (λ (k : Kind). P (actOf k set asked heard.Ms)) judge judge judge none none judge judge none none judge none none
 
   module _ (take : (after : After) → P (Take after)) where
-    of-cl : (k : Kind) → P (actOf k set asked GotCl)
+    of-cl : (k : Kind) → P (actOf k set asked heard.Cl)
     of-cl =
-        each (λ (k : Kind). P (actOf k set asked GotCl))
+        each (λ (k : Kind). P (actOf k set asked heard.Cl))
         (take ThenMs) none none (take ThenMs) (take ThenMs) none none (take ThenMs) (take ThenHalf) none none none
 
-    of-clr : (k : Kind) → P (actOf k set asked GotClr)
-    of-clr = each (λ (k : Kind). P (actOf k set asked GotClr)) (take ThenCl) none none (take ThenClMs) (take ThenClMs) none none none none none none none
+    of-clr : (k : Kind) → P (actOf k set asked heard.Clr)
+    of-clr = each (λ (k : Kind). P (actOf k set asked heard.Clr)) (take ThenCl) none none (take ThenClMs) (take ThenClMs) none none none none none none none
 
 -- ---- two messages in which the station sees the same
 
@@ -181,13 +181,13 @@ module _ {m m′ : List ℕ} (a : Alike m m′) where
     heard-same = go (eqb (typeOf m) 1) (eqb (typeOf m) 2) (eqb (typeOf m) 3) (eqb (typeOf m) 4) (eqb (typeOf m) 5) refl refl refl
       where
         go : (b c d e f : Bool) → eqb (typeOf m) 1 ≡ b → eqb (typeOf m) 2 ≡ c → eqb (typeOf m) 3 ≡ d
-            → Same (actOf (kindOf p) set (ackOf p) (pick b GotMs (pick c GotCl (pick d GotClr (pick e GotAck1 (pick f GotAck2 GotNak))))))
+            → Same (actOf (kindOf p) set (ackOf p) (pick b heard.Ms (pick c heard.Cl (pick d heard.Clr (pick e heard.Ack1 (pick f heard.Ack2 heard.Nak))))))
         go true c d e f x y z = of-ms Same set (ackOf p) refl (judge-same (eqb-true (typeOf m) 1 x)) (kindOf p)
         go false true d e f x y z = of-cl Same set (ackOf p) refl (λ after. take-alike (rw (eqb-true (typeOf m) 2 y)) after set own run time) (kindOf p)
         go false false true e f x y z = of-clr Same set (ackOf p) refl (λ after. take-alike (rw (eqb-true (typeOf m) 3 z)) after set own run time) (kindOf p)
-        go false false false true f x y z = heard-blind p set own run m m′ time GotAck1 refl
-        go false false false false true x y z = heard-blind p set own run m m′ time GotAck2 refl
-        go false false false false false x y z = heard-blind p set own run m m′ time GotNak refl
+        go false false false true f x y z = heard-blind p set own run m m′ time heard.Ack1 refl
+        go false false false false true x y z = heard-blind p set own run m m′ time heard.Ack2 refl
+        go false false false false false x y z = heard-blind p set own run m m′ time heard.Nak refl
 
     sorted-alike : sorted (sortOf Field m) p set own run m time ≡ sorted (sortOf Field m′) p set own run m′ time
     sorted-alike = rw (a .fine, a .fine′, sym (a .kind)) heard-same

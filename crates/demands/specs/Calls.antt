@@ -12,7 +12,8 @@ use Rattle.table.specs.declared.Settings.{Settings}
 use Rattle.table.specs.declared.State.{State}
 use Rattle.table.specs.Phases.{kindOf, entryOf, isOver}
 use Rattle.station.specs.Acting.{Outcome}
-use Rattle.station.specs.Stepping.{isMode, toldNo}
+use Rattle.station.specs.Stepping.{toldNo}
+use Rattle.table.specs.Phases.{isMode}
 use Rattle.station.specs.Contracts.{Steps}
 use Rattle.station.specs.declared.Event.{Event}
 use Rattle.station.specs.declared.Sends.the-variants.{NoSignal}
@@ -24,9 +25,9 @@ use Rattle.demands.specs.Proposals.{Proposal, proposedBy, NoneSuits, Pro
 -- what it is given, the buffers that it is lent (₀ before the call, ₁ behind it), its answer, and its `ensures`
 pub record Call : Type 0 where
   pub state : State
-  pub set : Settings
+  pub settings : Settings
   pub own : List ℕ
-  pub run : List ℕ
+  pub wishes : List ℕ
   pub event : Event
   pub field : List ℕ
   pub time : ℕ
@@ -35,7 +36,7 @@ pub record Call : Type 0 where
   pub answer : Stepped
   pub out₁ : List ℕ
   pub store₁ : List ℕ
-  pub ensured : Steps state set own run event field time out₀ store₀ answer out₁ store₁
+  pub ensured : Steps state settings own wishes event field time out₀ store₀ answer out₁ store₁
 
 abbrev pub phaseOf : Call → Phase
 phaseOf c = c .state .phase
@@ -43,9 +44,9 @@ phaseOf c = c .state .phase
 abbrev pub given : Call → Given
 given c =
     record {
-      set = c .set;
+      settings = c .settings;
       own = c .own;
-      run = c .run;
+      wishes = c .wishes;
       event = c .event;
       field = c .field;
       time = c .time;

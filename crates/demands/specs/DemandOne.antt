@@ -36,7 +36,7 @@ use Rattle.strike.specs.Rewriting.{Rewrites}
 use Rattle.strike.specs.Striking.{struckTold, Strikes}
 use Rattle.strike.specs.declared.Struck.{Struck}
 use Rattle.choice.specs.Contracts.{ChecksTables, ChoosesReady, ChoosesCommon, JudgesMode}
-use Rattle.table.specs.Contracts.{TellsKind, TellsEntry, TellsWish, TellsAck, TellsOver, TellsAct}
+use Rattle.table.specs.Contracts.{TellsCarried, TellsNumber, TellsMode, TellsOver, TellsAct}
 use Rattle.table.specs.declared.Phase.{Phase}
 use Rattle.table.specs.declared.Kind.{Kind}
 use Rattle.table.specs.declared.Heard.{Heard}
@@ -116,10 +116,9 @@ pub record DemandOne : Type 0 where
   pub first-common : (own run far : List ℕ) (place : ℕ) → OneReply (ChoosesCommon own run far place)
   pub judge-mode : (run s : List ℕ) (place : ℕ) → OneReply (JudgesMode run s place)
   -- The station
-  pub kind-of : (phase : Phase) → OneReply (TellsKind phase)
-  pub entry-of : (phase : Phase) → OneReply (TellsEntry phase)
-  pub wish-of : (phase : Phase) → OneReply (TellsWish phase)
-  pub ack-of : (phase : Phase) → OneReply (TellsAck phase)
+  pub carried-by : (phase : Phase) → OneReply (TellsCarried phase)
+  pub number-of : (kind : Kind) → OneReply (TellsNumber kind)
+  pub is-mode : (kind : Kind) → OneReply (TellsMode kind)
   pub is-over : (kind : Kind) → OneReply (TellsOver kind)
   pub act-of : (kind : Kind) (set : Settings) (asked : Bool) (heard : Heard) → OneReply (TellsAct kind set asked heard)
   pub begin : (time : ℕ) → OneReply (TellsBegun time)

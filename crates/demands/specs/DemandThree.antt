@@ -20,7 +20,7 @@ use Rattle.strike.specs.Striking.{struckForm, struckTold, Strikes}
 use Rattle.strike.specs.declared.Struck.{Struck}
 use Rattle.table.specs.declared.Phase.{Phase}
 use Rattle.table.specs.declared.Phase.the-variants.{Initial}
-use Rattle.table.specs.declared.Heard.the-variants.{GotMs}
+use Rattle.table.specs.declared.Heard.the-variants as heard
 use Rattle.table.specs.declared.Act.the-variants.{Judge}
 use Rattle.table.specs.declared.Settings.{Settings}
 use Rattle.table.specs.declared.State.{State}
@@ -67,7 +67,7 @@ pub record DemandThree : Type 0 where
       × (length (struckForm m) ≤ length m)
   -- Where an MS is due and nothing earlier is refused, one whose standard field has an unnamed parameter is declined with NAK(3): nothing is
   -- stored, and the phase is Initial.
-  pub unnamed-declined : (p : Phase) (g : Given) → Passes p g GotMs → actOn p g GotMs ≡ Judge → (x : ℕ) → isIn x (standardHeard g) ≡ true → namedCode x ≡ false
+  pub unnamed-declined : (p : Phase) (g : Given) → Passes p g heard.Ms → actOn p g heard.Ms ≡ Judge → (x : ℕ) → isIn x (standardHeard g) ≡ true → namedCode x ≡ false
       → steps p g ≡ sends (0x2a ∷ []) [] [] (Initial (g .time))
   -- Revision decides nothing but the revision reported. Two messages that differ in it alone, so octet 1 is o or o′ and the type is the same,
   -- are read alike: the same answer, the same codes, the same place and length of NS.

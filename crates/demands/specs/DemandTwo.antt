@@ -40,7 +40,8 @@ use Rattle.table.specs.declared.State.{State}
 use Rattle.table.specs.Phases.{kindOf, entryOf, wishOf, ackOf, isOver}
 use Rattle.station.specs.Sorting.{strange, sortOf}
 use Rattle.station.specs.Acting.{quiet}
-use Rattle.station.specs.Stepping.{isMode, isLate, isReset}
+use Rattle.station.specs.Stepping.{isLate, isReset}
+use Rattle.table.specs.Phases.{isMode}
 use Rattle.station.specs.Contracts.{TellsBegun}
 use Rattle.demands.specs.Holding.{MayHold, MayWish}
 use Rattle.demands.specs.Returning.{Tells, FourCalls, ComesBack}
@@ -133,10 +134,10 @@ pub record DemandTwo : Type 0 where
   -- 2: a bad own table
   pub refuses-2 : (p : Phase) (g : Given) → isReset (g .event) ≡ false → 128 ≤ g .outSize → 64 ≤ g .storeSize → goodField (g .own) ≡ false → steps p g ≡ quiet 2 p
   -- 3: bad wishes, where the own table is good
-  pub refuses-3 : (p : Phase) (g : Given) → isReset (g .event) ≡ false → 128 ≤ g .outSize → 64 ≤ g .storeSize → goodField (g .own) ≡ true → goodWishes (g .run) ≡ false → steps p g ≡ quiet 3 p
+  pub refuses-3 : (p : Phase) (g : Given) → isReset (g .event) ≡ false → 128 ≤ g .outSize → 64 ≤ g .storeSize → goodField (g .own) ≡ true → goodWishes (g .wishes) ≡ false → steps p g ≡ quiet 3 p
   -- 4: a wish outside the own table, where both are good
-  pub refuses-4 : (p : Phase) (g : Given) → isReset (g .event) ≡ false → 128 ≤ g .outSize → 64 ≤ g .storeSize → goodField (g .own) ≡ true → goodWishes (g .run) ≡ true
-      → allInside (g .own) (wishesOf (g .run)) ≡ false → steps p g ≡ quiet 4 p
+  pub refuses-4 : (p : Phase) (g : Given) → isReset (g .event) ≡ false → 128 ≤ g .outSize → 64 ≤ g .storeSize → goodField (g .own) ≡ true → goodWishes (g .wishes) ≡ true
+      → allInside (g .own) (wishesOf (g .wishes)) ≡ false → steps p g ≡ quiet 4 p
   -- 5: a time below the phase's entry time
   pub refuses-5 : (p : Phase) (g : Given) → Sound g → g .time < entryOf p → steps p g ≡ quiet 5 p
   -- 6: timed out, and the phase is Initial then
@@ -165,10 +166,10 @@ pub record DemandTwo : Type 0 where
   pub sent-is-read : (p : Phase) (g : Given) → InOctets g → FieldSent g (steps p g .first) × FieldSent g (steps p g .second)
   -- after a far list an MS says Short V.8 exactly if both sides offer it
   pub short-if-both : (list : List ℕ) (g : Given) (w : Wish) (ms : List ℕ) → IsMs (heard list) g w ms
-      → (isIn (codeOf 1 0 0 2) (messageCodes ms) ≡ true) ↔ ((g .set .short ≡ true) × (farSays 2 g ≡ true))
+      → (isIn (codeOf 1 0 0 2) (messageCodes ms) ≡ true) ↔ ((g .settings .«short_v8» ≡ true) × (farSays 2 g ≡ true))
   -- and V.8 exactly if both sides offer that, and not both Short V.8
   pub eight-if-both : (list : List ℕ) (g : Given) (w : Wish) (ms : List ℕ) → IsMs (heard list) g w ms
-      → (isIn (codeOf 1 0 0 1) (messageCodes ms) ≡ true) ↔ ((g .set .eight ≡ true) × (farSays 1 g ≡ true) × (bothShort g ≡ false))
+      → (isIn (codeOf 1 0 0 1) (messageCodes ms) ≡ true) ↔ ((g .settings .v8 ≡ true) × (farSays 1 g ≡ true) × (bothShort g ≡ false))
   -- with no far list it says neither
   pub neither-unheard : (g : Given) (w : Wish) (ms : List ℕ) → IsMs unheard g w ms
       → (isIn (codeOf 1 0 0 1) (messageCodes ms) ≡ false) × (isIn (codeOf 1 0 0 2) (messageCodes ms) ≡ false)

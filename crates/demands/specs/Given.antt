@@ -21,15 +21,16 @@ use Rattle.table.specs.Phases.{kindOf, entryOf, ackOf, isOver}
 use Rattle.table.specs.Rows.{actOf}
 use Rattle.station.specs.Sorting.{known, sortOf}
 use Rattle.station.specs.Acting.{Outcome, does}
-use Rattle.station.specs.Stepping.{isMode, isLate, isReset, stepOf}
+use Rattle.station.specs.Stepping.{isLate, isReset, stepOf}
+use Rattle.table.specs.Phases.{isMode}
 use Rattle.station.specs.declared.Event.{Event}
 use Rattle.station.specs.declared.Event.the-variants.{Field, InvalidFrame}
 
 -- beside its phase: the settings, the own table, the wishes, the event with the field heard, the time, the sizes of output and store
 pub record Given : Type 0 where
-  pub set : Settings
+  pub settings : Settings
   pub own : List ℕ
-  pub run : List ℕ
+  pub wishes : List ℕ
   pub event : Event
   pub field : List ℕ
   pub time : ℕ
@@ -37,12 +38,12 @@ pub record Given : Type 0 where
   pub storeSize : ℕ
 
 abbrev pub steps : Phase → Given → Outcome
-steps p g = stepOf p (g .set) (g .own) (g .run) (g .event) (g .field) (g .time) (g .outSize) (g .storeSize)
+steps p g = stepOf p (g .settings) (g .own) (g .wishes) (g .event) (g .field) (g .time) (g .outSize) (g .storeSize)
 
 -- own table and wishes are octets, as whatever is lent as a run of them is
 pub record InOctets (g : Given) : Type 0 where
   pub own : AreOctets (g .own)
-  pub run : AreOctets (g .run)
+  pub wishes : AreOctets (g .wishes)
 
 -- ---- the refusals before the table, in their order
 
@@ -51,7 +52,7 @@ pub record Sound (g : Given) : Type 0 where
   pub live : isReset (g .event) ≡ false
   pub output : 128 ≤ g .outSize
   pub store : 64 ≤ g .storeSize
-  pub tables : tablesNo (g .own) (g .run) ≡ 0
+  pub tables : tablesNo (g .own) (g .wishes) ≡ 0
 
 -- nor do 5 and 6, and the phase is not Mode
 pub record Due (p : Phase) (g : Given) : Type 0 where
@@ -67,10 +68,10 @@ pub record Passes (p : Phase) (g : Given) (h : Heard) : Type 0 where
 
 -- the table's act on what was heard, and what an act does
 abbrev pub actOn : Phase → Given → Heard → Act
-actOn p g h = actOf (kindOf p) (g .set) (ackOf p) h
+actOn p g h = actOf (kindOf p) (g .settings) (ackOf p) h
 
 abbrev pub doing : Act → Phase → Given → Outcome
-doing a p g = does a p (g .set) (g .own) (g .run) (g .field) (g .time)
+doing a p g = does a p (g .settings) (g .own) (g .wishes) (g .field) (g .time)
 
 -- ---- what is heard
 

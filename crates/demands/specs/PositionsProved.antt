@@ -12,10 +12,10 @@ use Rattle.message.specs.Kinds.{typeOf, revisionOf}
 use Rattle.message.specs.Reader.{messageCodes, nsOf, refused, accepted, readMessage}
 use Rattle.meaning.specs.Writing.{sent, writeMessage}
 use Rattle.strike.specs.Striking.{strikeMessage}
-use Rattle.table.specs.declared.OnCrD.the-variants.{WithCl}
-use Rattle.table.specs.declared.OnCrE.the-variants.{AsOnCrD}
-use Rattle.table.specs.declared.OnMrD.the-variants.{ByMs}
-use Rattle.table.specs.declared.OnMrE.the-variants.{WithMs}
+use Rattle.table.specs.declared.OnCrD.the-variants as on-cr-d
+use Rattle.table.specs.declared.OnCrE.the-variants as on-cr-e
+use Rattle.table.specs.declared.OnMrD.the-variants as on-mr-d
+use Rattle.table.specs.declared.OnMrE.the-variants as on-mr-e
 use Rattle.table.specs.declared.Phase.the-variants.{Initial, AskedD, ListsD, Proposed}
 use Rattle.table.specs.declared.Settings.{Settings}
 use Rattle.station.specs.Acting.{quiet, sends}
@@ -24,7 +24,7 @@ use Rattle.station.specs.declared.Event.the-variants.{Field}
 
 -- V.8 is offered, and ACK(1) asked
 abbrev pub settings : Settings
-settings = record { eight = true; short = false; ack = true; mre = WithMs; crd = WithCl; cre = AsOnCrD; mrd = ByMs }
+settings = record { v8 = true; «short_v8» = false; ack = true; «on_mr_e» = on-mr-e.Ms; «on_cr_d» = on-cr-d.Cl; «on_cr_e» = on-cr-e.AsOnCrD; «on_mr_d» = on-mr-d.Ms }
 
 pub record PositionsProved : Type 0 where
   -- 22 80 80 80 80: CL, empty lists.

@@ -24,17 +24,17 @@ use Rattle.demands.specs.Sent.{IsCl, IsClr, IsMs, IsField, farSays, list
 -- the wish that is proposed is the first that suits: ready, and common where a list was heard; and its MS
 pub record Proposal (far : Far) (g : Given) : Type 0 where
   pub pick : Pick
-  pub chosen : First (standardCodes (g .own)) far (g .run) pick
+  pub chosen : First (standardCodes (g .own)) far (g .wishes) pick
   pub ms : List ℕ
   pub sent : IsMs far g (chosen .wish) ms
 
 -- the phase that it leads to
 abbrev pub proposedBy : {far : Far} {g : Given} → Proposal far g → Phase
-proposedBy {far} {g} x = Proposed (g .time) (x .pick .number) (g .set .ack)
+proposedBy {far} {g} x = Proposed (g .time) (x .pick .number) (g .settings .ack)
 
 -- no wish suits
 abbrev pub NoneSuits : Far → Given → Type 0
-NoneSuits far g = (w : Wish) → List·Memᴰ w (wishesOf (g .run)) → suits (standardCodes (g .own)) far w ≡ false
+NoneSuits far g = (w : Wish) → List·Memᴰ w (wishesOf (g .wishes)) → suits (standardCodes (g .own)) far w ≡ false
 
 -- the MS of the first wish that suits is sent, and Proposed is next; 11 where none does: nothing is sent, and Initial is next
 pub data SendsMs (far : Far) (stored : List ℕ) (g : Given) (o : Outcome) : Type 0 where
@@ -80,7 +80,7 @@ pub data FieldSent (g : Given) (os : List ℕ) : Type 0 where
 
 -- a wish that the mode heard fits
 abbrev pub Fits : Given → Type 0
-Fits g = Fitting (standardHeard g) (wishesOf (g .run))
+Fits g = Fitting (standardHeard g) (wishesOf (g .wishes))
 
 -- it fits a ready wish: its S field is stored, ACK(1) is sent if it asks for that, and Mode is next. It fits only wishes not ready: NAK(2),
 -- and Initial. It fits none: NAK(3), and Initial

@@ -33,10 +33,10 @@ pub record IsSent (kind : ℕ) (eight short ack : Bool) (standard os : List ℕ)
 
 -- a CL is type 2, a CLR type 3: our V.8 and Short V.8 settings and the own table
 abbrev pub IsCl : Given → List ℕ → Type 0
-IsCl g os = IsSent 2 (g .set .eight) (g .set .short) false (standardCodes (g .own)) os
+IsCl g os = IsSent 2 (g .settings .v8) (g .settings .«short_v8») false (standardCodes (g .own)) os
 
 abbrev pub IsClr : Given → List ℕ → Type 0
-IsClr g os = IsSent 3 (g .set .eight) (g .set .short) false (standardCodes (g .own)) os
+IsClr g os = IsSent 3 (g .settings .v8) (g .settings .«short_v8») false (standardCodes (g .own)) os
 
 -- ---- what the far side says
 
@@ -45,10 +45,10 @@ abbrev pub farSays : ℕ → Given → Bool
 farSays q g = isIn (codeOf 1 0 0 q) (messageCodes (g .field))
 
 abbrev pub bothShort : Given → Bool
-bothShort g = both (g .set .short) (farSays 2 g)
+bothShort g = both (g .settings .«short_v8») (farSays 2 g)
 
 abbrev pub bothEight : Given → Bool
-bothEight g = both (g .set .eight) (farSays 1 g)
+bothEight g = both (g .settings .v8) (farSays 1 g)
 
 -- the named parameters of its list
 abbrev pub listNamed : Given → List ℕ
@@ -57,8 +57,8 @@ listNamed g = only namedCode (standardHeard g)
 -- an MS is type 1, with the wish's parameters, and asks for ACK(1) by the setting. With no far list it says neither V.8 nor Short V.8;
 -- after one it says Short V.8 if both sides offer it, else V.8 if both do, else neither
 abbrev pub IsMs : Far → Given → Wish → List ℕ → Type 0
-IsMs unheard g w os = IsSent 1 false false (g .set .ack) (wishCodes w) os
-IsMs (heard list) g w os = IsSent 1 (both (not (bothShort g)) (bothEight g)) (bothShort g) (g .set .ack) (wishCodes w) os
+IsMs unheard g w os = IsSent 1 false false (g .settings .ack) (wishCodes w) os
+IsMs (heard list) g w os = IsSent 1 (both (not (bothShort g)) (bothEight g)) (bothShort g) (g .settings .ack) (wishCodes w) os
 
 -- ---- what is stored
 

@@ -19,13 +19,13 @@ const REFUSED: u64 = 1000;
 // All that can be offered is offered.
 fn settings() -> Settings {
     Settings {
-        eight: true,
-        short: true,
+        v8: true,
+        short_v8: true,
         ack: true,
-        mre: OnMrE::WithMs,
-        crd: OnCrD::WithCl,
-        cre: OnCrE::AsOnCrD,
-        mrd: OnMrD::ByMs,
+        on_mr_e: OnMrE::Ms,
+        on_cr_d: OnCrD::Cl,
+        on_cr_e: OnCrE::AsOnCrD,
+        on_mr_d: OnMrD::Ms,
     }
 }
 

@@ -6,8 +6,6 @@ use super::wire::U16;
 use super::wire::U64;
 use station::Event;
 use station::Sends;
-use station::Signal;
-use station::Start;
 use station::Stepped;
 use station::Told;
 use table::OnCrD;
@@ -16,6 +14,8 @@ use table::OnMrD;
 use table::OnMrE;
 use table::Phase;
 use table::Settings;
+use table::Signal;
+use table::Start;
 use table::State;
 
 // Where the pieces of a request start: phase u8, entry u64, wish u8, ACK asked u8, seven settings of one octet each, the own table.
@@ -84,43 +84,43 @@ fn state_at(request: &[u8]) -> State {
 
 // The settings of a request.
 fn settings_at(request: &[u8]) -> Settings {
-    let mre = match wire::octet(request, SETTINGS_AT + 3) {
-        0 => OnMrE::WithMs,
-        1 => OnMrE::WithMrD,
-        _ => OnMrE::WithCrD,
+    let on_mr_e = match wire::octet(request, SETTINGS_AT + 3) {
+        0 => OnMrE::Ms,
+        1 => OnMrE::MrD,
+        _ => OnMrE::CrD,
     };
-    let crd = match wire::octet(request, SETTINGS_AT + 4) {
-        0 => OnCrD::WithCl,
-        _ => OnCrD::WithClr,
+    let on_cr_d = match wire::octet(request, SETTINGS_AT + 4) {
+        0 => OnCrD::Cl,
+        _ => OnCrD::Clr,
     };
-    let cre = match wire::octet(request, SETTINGS_AT + 5) {
+    let on_cr_e = match wire::octet(request, SETTINGS_AT + 5) {
         0 => OnCrE::AsOnCrD,
-        _ => OnCrE::ByCrD,
+        _ => OnCrE::CrD,
     };
-    let mrd = match wire::octet(request, SETTINGS_AT + 6) {
-        0 => OnMrD::ByMs,
-        _ => OnMrD::ByLists,
+    let on_mr_d = match wire::octet(request, SETTINGS_AT + 6) {
+        0 => OnMrD::Ms,
+        _ => OnMrD::CrD,
     };
     Settings {
-        eight: wire::octet(request, SETTINGS_AT) == 1,
-        short: wire::octet(request, SETTINGS_AT + 1) == 1,
+        v8: wire::octet(request, SETTINGS_AT) == 1,
+        short_v8: wire::octet(request, SETTINGS_AT + 1) == 1,
         ack: wire::octet(request, SETTINGS_AT + 2) == 1,
-        mre,
-        crd,
-        cre,
-        mrd,
+        on_mr_e,
+        on_cr_d,
+        on_cr_e,
+        on_mr_d,
     }
 }
 
 fn start_of(what: u64) -> Start {
     match what {
-        0 => Start::MrEFirst,
-        1 => Start::MrDFirst,
-        2 => Start::CrEFirst,
-        3 => Start::CrDFirst,
-        4 => Start::MsFirst,
-        5 => Start::ClFirst,
-        _ => Start::ClrFirst,
+        0 => Start::MrE,
+        1 => Start::MrD,
+        2 => Start::CrE,
+        3 => Start::CrD,
+        4 => Start::Ms,
+        5 => Start::Cl,
+        _ => Start::Clr,
     }
 }
 
@@ -135,11 +135,11 @@ fn signal_of(what: u64) -> Signal {
 
 fn event_of(event: u64, what: u64) -> Event {
     match event {
-        0 => Event::Begin(start_of(what)),
-        1 => Event::Tones(signal_of(what)),
+        0 => Event::Start(start_of(what)),
+        1 => Event::Signal(signal_of(what)),
         2 => Event::Field,
         3 => Event::InvalidFrame,
-        4 => Event::Answer,
+        4 => Event::AnswerTone,
         _ => Event::Reset,
     }
 }
@@ -186,7 +186,7 @@ fn put_stepped(reply: &mut [u8], stepped: Stepped) -> usize {
     let phase = state.phase;
     let phase_at = wire::put_number(reply, 0, U8, number_of(told));
     let signal_at = put_phase(reply, phase_at, phase);
-    let first_at = wire::put_number(reply, signal_at, U8, number_of_signal(signal));
+    let first_at = wire::put_number(reply, signal_at, U8, number_of_sent(signal));
     let second_at = wire::put_number(reply, first_at, U16, stepped.first as u64);
     let stored_at = wire::put_number(reply, second_at, U16, stepped.second as u64);
     wire::put_number(reply, stored_at, U16, stepped.stored as u64)
@@ -196,7 +196,7 @@ fn put_stepped(reply: &mut [u8], stepped: Stepped) -> usize {
 fn number_of(told: Told) -> u64 {
     match told {
         Told::Done => 0,
-        Told::SmallBuffers => 1,
+        Told::BadLent => 1,
         Told::BadOwn => 2,
         Told::BadWishes => 3,
         Told::Outside => 4,
@@ -208,37 +208,29 @@ fn number_of(told: Told) -> u64 {
     }
 }
 
-fn number_of_signal(signal: Sends) -> u64 {
+fn number_of_signal(signal: Signal) -> u64 {
     match signal {
+        Signal::MrE => 1,
+        Signal::MrD => 2,
+        Signal::CrE => 3,
+        Signal::CrD => 4,
+    }
+}
+
+// The signal to send, 0 for none.
+fn number_of_sent(sends: Sends) -> u64 {
+    match sends {
         Sends::NoSignal => 0,
-        Sends::SendsMrE => 1,
-        Sends::SendsMrD => 2,
-        Sends::SendsCrE => 3,
-        Sends::SendsCrD => 4,
+        Sends::Signal(signal) => number_of_signal(signal),
     }
 }
 
 // A phase: its number, entry u64, wish u8, ACK asked u8.
 fn put_phase(reply: &mut [u8], at: usize, phase: Phase) -> usize {
-    let entry_at = wire::put_number(reply, at, U8, number_of_phase(phase));
-    let wish_at = wire::put_number(reply, entry_at, U64, table::entry_of(phase));
-    let ack_at = wire::put_number(reply, wish_at, U8, table::wish_of(phase) as u64);
-    wire::put_number(reply, ack_at, U8, table::ack_of(phase) as u64)
-}
-
-fn number_of_phase(phase: Phase) -> u64 {
-    match phase {
-        Phase::Initial(_) => 0,
-        Phase::AskedE(_) => 1,
-        Phase::AskedD(_) => 2,
-        Phase::ListsE(_) => 3,
-        Phase::ListsD(_) => 4,
-        Phase::Counter(_) => 5,
-        Phase::Listed(_) => 6,
-        Phase::Traded(_) => 7,
-        Phase::Pair(_) => 8,
-        Phase::Half(_) => 9,
-        Phase::Proposed(_, _, _) => 10,
-        Phase::Mode(_, _, _) => 11,
-    }
+    let carried = table::carried_by(phase);
+    let kind = carried.kind;
+    let entry_at = wire::put_number(reply, at, U8, table::number_of(kind) as u64);
+    let wish_at = wire::put_number(reply, entry_at, U64, carried.entry);
+    let ack_at = wire::put_number(reply, wish_at, U8, carried.wish as u64);
+    wire::put_number(reply, ack_at, U8, carried.ack as u64)
 }

@@ -14,10 +14,10 @@ use Rattle.choice.proofs.ChoiceUnique.{tables-unique}
 use Rattle.table.specs.declared.Phase.{Phase}
 use Rattle.table.specs.declared.Phase.the-variants.{Initial}
 use Rattle.table.specs.declared.Settings.{Settings}
-use Rattle.table.specs.Phases.{kindOf, entryOf}
+use Rattle.table.specs.Phases.{kindOf, entryOf, isMode}
 use Rattle.station.specs.Sorting.{sortOf}
 use Rattle.station.specs.Acting.{Outcome, quiet}
-use Rattle.station.specs.Stepping.{outputRoom, storeRoom, isMode, isLate, sorted, timed, checked}
+use Rattle.station.specs.Stepping.{outputRoom, storeRoom, isLate, sorted, timed, checked}
 use Rattle.station.specs.declared.Event.{Event}
 
 -- ---- the time, and Mode

@@ -117,11 +117,11 @@ good-written t o h =
 
 module _ (kind : ℕ) (offer : Offer) (own : List ℕ) (fields : kind ≤ 3) (octets : AreOctets own) (good : goodField own ≡ true) where
   -- a message with an offer and a good field's codes, octet for octet
-  pub sent-octets : sentField kind offer (standardCodes own) ≡ (32 + kind) ∷ (128 + num (offer .eight) + 2 * num (offer .short) + 8 * num (offer .ack)) ∷ 128 ∷ own
+  pub sent-octets : sentField kind offer (standardCodes own) ≡ (32 + kind) ∷ (128 + num (offer .v8) + 2 * num (offer .«short_v8») + 8 * num (offer .ack)) ∷ 128 ∷ own
   unfolding sentField messageOctets offerCodes
   sent-octets =
       let h = high-cut (fieldBase 2) (standardCodes own) (field-ascending Standard own 0) in
-      let p = offer-cut (offer .eight) (offer .short) (offer .ack) (standardCodes own) (h .0) (h .1) in
+      let p = offer-cut (offer .v8) (offer .«short_v8») (offer .ack) (standardCodes own) (h .0) (h .1) in
       rw (lt-ltb kind 4 (omega arith), p .0, p .1, good-written own octets good, append-nil own)
 
   -- so it has three octets more than the field
@@ -133,7 +133,7 @@ module _ (kind : ℕ) (offer : Offer) (own : List ℕ) (fields : kind ≤ 3) (oc
   sent-short = omega (arith, sent-length, good-short own octets good)
 
   -- its three octets stored and the field copied behind them put it
-  pub sent-laid : (eight short ack n : ℕ) (d o₁ o₂ : List ℕ) → 64 ≤ length d → eight ≡ num (offer .eight) → short ≡ num (offer .short) → ack ≡ num (offer .ack)
+  pub sent-laid : (eight short ack n : ℕ) (d o₁ o₂ : List ℕ) → 64 ≤ length d → eight ≡ num (offer .v8) → short ≡ num (offer .«short_v8») → ack ≡ num (offer .ack)
       → n ≡ length own → o₁ ≡ set (set (set d 0 (32 + kind)) 1 (128 + eight + 2 * short + 8 * ack)) 2 128 → o₂ ≡ over (take n own) (take (length o₁ - 3) (drop 3 o₁))
       → putMid 3 (length o₁ - 3) o₁ o₂ ≡ put (sentField kind offer (standardCodes own)) d
   sent-laid eight short ack n d o₁ o₂ h e s a k e₁ e₂ =
@@ -162,9 +162,9 @@ both-both : (a b c : Bool) → both (both a b) c ≡ both a (both b c)
 both-both true b c = refl
 both-both false b c = refl
 
-pub mode-offered : (set : Settings) (far : FarOffer) (eight short some : Bool) → short ≡ both (set .short) (far .short) → some ≡ both (not short) (set .eight)
-    → eight ≡ both some (far .eight) → _≡_ {A = Offer} (record { eight = eight; short = short; ack = set .ack }) (modeOffer set far)
-mode-offered set far eight short some s t e = rw (e, t, both-both (not short) (set .eight) (far .eight), s)
+pub mode-offered : (set : Settings) (far : FarOffer) (eight short some : Bool) → short ≡ both (set .«short_v8») (far .«short_v8») → some ≡ both (not short) (set .v8)
+    → eight ≡ both some (far .v8) → _≡_ {A = Offer} (record { v8 = eight; «short_v8» = short; ack = set .ack }) (modeOffer set far)
+mode-offered set far eight short some s t e = rw (e, t, both-both (not short) (set .v8) (far .v8), s)
 
 -- ---- the answer
 

@@ -11,7 +11,7 @@ use Rattle.station.specs.Acting.{Outcome}
 use Rattle.station.specs.Stepping.{toldNo, Reply, stepTold, begun, Did}
 use Rattle.station.specs.declared.Stepped.{Stepped}
 use Rattle.station.specs.declared.Told.{Told}
-use Rattle.station.specs.declared.Told.the-variants.{Done, SmallBuffers, BadOwn, BadWishes, Outside, TimeBefore, TimedOut, UnknownType, NotInTable, NothingToPropose}
+use Rattle.station.specs.declared.Told.the-variants.{Done, BadLent, BadOwn, BadWishes, Outside, TimeBefore, TimedOut, UnknownType, NotInTable, NothingToPropose}
 
 pub begin-unique : (time : ℕ) (r r′ : State) → r ≡ begun time → r′ ≡ begun time → r ≡ r′
 begin-unique time r r′ e e′ = one-reply e e′
@@ -20,7 +20,7 @@ begin-unique time r r′ e e′ = one-reply e e′
 abbrev toldBack : ℕ → Told
 toldBack n =
     pick (eqb n (toldNo Done)) Done
-    (pick (eqb n (toldNo SmallBuffers)) SmallBuffers
+    (pick (eqb n (toldNo BadLent)) BadLent
     (pick (eqb n (toldNo BadOwn)) BadOwn
     (pick (eqb n (toldNo BadWishes)) BadWishes
     (pick (eqb n (toldNo Outside)) Outside
@@ -33,7 +33,7 @@ toldBack n =
 -- each has a number of its own
 told-back : (t : Told) → toldBack (toldNo t) ≡ t
 told-back Done = refl
-told-back SmallBuffers = refl
+told-back BadLent = refl
 told-back BadOwn = refl
 told-back BadWishes = refl
 told-back Outside = refl

@@ -16,5 +16,5 @@ TellsBegun time r = r ≡ begun time
 
 -- step
 abbrev pub Steps : State → Settings → List ℕ → List ℕ → Event → List ℕ → ℕ → List ℕ → List ℕ → Stepped → List ℕ → List ℕ → Type 0
-Steps state set own run event m time out₀ store₀ r out₁ store₁ =
-    Did (stepOf (state .phase) set own run event m time (length out₀) (length store₀)) out₀ store₀ r out₁ store₁
+Steps state settings own wishes event field time out₀ store₀ r out₁ store₁ =
+    Did (stepOf (state .phase) settings own wishes event field time (length out₀) (length store₀)) out₀ store₀ r out₁ store₁

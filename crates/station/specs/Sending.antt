@@ -7,6 +7,7 @@ use mathlib.Core.List.{List, [], _∷_, _++_}
 use lib.ListN.{take, drop}
 use Rattle.tree.specs.Codes.{codeOf}
 use Rattle.octets.specs.Places.{both}
+use Rattle.message.specs.Kinds.{ms, ack1}
 use Rattle.meaning.specs.Writing.{messageOctets}
 use Rattle.choice.specs.Wishes.{standardCodes}
 use Rattle.choice.specs.declared.Pick.{Pick}
@@ -23,39 +24,39 @@ codeIf true c l = c ∷ l
 codeIf false c l = l
 
 unfoldable pub offerCodes : Offer → List ℕ
-offerCodes o = codeIf (o .eight) (codeOf 1 0 0 1) (codeIf (o .short) (codeOf 1 0 0 2) (codeIf (o .ack) (codeOf 1 0 0 4) []))
+offerCodes o = codeIf (o .v8) (codeOf 1 0 0 1) (codeIf (o .«short_v8») (codeOf 1 0 0 2) (codeIf (o .ack) (codeOf 1 0 0 4) []))
 
--- a message with an offer and standard codes: MS 1, CL 2, CLR 3
+-- an MS, a CL or a CLR with an offer and standard codes
 unfoldable pub sentField : ℕ → Offer → List ℕ → List ℕ
 sentField kind offer codes = messageOctets kind sentRevision (offerCodes offer ++ codes) []
 
 -- ACK(1), and NAK(1) to NAK(3)
 abbrev pub sentAck : List ℕ
-sentAck = messageOctets 4 sentRevision [] []
+sentAck = messageOctets ack1 sentRevision [] []
 
 abbrev pub sentNak : ℕ → List ℕ
 sentNak k = messageOctets (7 + k) sentRevision [] []
 
 -- a CL or a CLR carries the V.8 and Short V.8 settings, and the own table
 abbrev pub listOffer : Settings → Offer
-listOffer set = record { eight = set .eight; short = set .short; ack = false }
+listOffer settings = record { v8 = settings .v8; «short_v8» = settings .«short_v8»; ack = false }
 
 unfoldable pub sentList : ℕ → Settings → List ℕ → List ℕ
-sentList kind set own = sentField kind (listOffer set) (standardCodes own)
+sentList kind settings own = sentField kind (listOffer settings) (standardCodes own)
 
 -- what the far side offers, where no list of it was heard
 abbrev pub noOffer : FarOffer
-noOffer = record { eight = false; short = false }
+noOffer = record { v8 = false; «short_v8» = false }
 
 -- an MS sets Short V.8 if both offer it, else V.8 if both do, else neither; and whether ACK(1) is asked
 abbrev pub modeOffer : Settings → FarOffer → Offer
-modeOffer set far =
+modeOffer settings far =
     record {
-      eight = both (not (both (set .short) (far .short))) (both (set .eight) (far .eight));
-      short = both (set .short) (far .short);
-      ack = set .ack;
+      v8 = both (not (both (settings .«short_v8») (far .«short_v8»))) (both (settings .v8) (far .v8));
+      «short_v8» = both (settings .«short_v8») (far .«short_v8»);
+      ack = settings .ack;
     }
 
 -- the MS of the wish that was chosen
 unfoldable pub sentMode : Settings → FarOffer → List ℕ → Pick → List ℕ
-sentMode set far run p = sentField 1 (modeOffer set far) (standardCodes (take (p .length) (drop (p .at) run)))
+sentMode settings far wishes p = sentField ms (modeOffer settings far) (standardCodes (take (p .length) (drop (p .at) wishes)))

@@ -4,41 +4,22 @@ use Prim.Native.Nat.{ℕ}
 use mathlib.Core.List.{List}
 use lib.Dec.{eqb}
 use Rattle.octets.specs.Places.{pick}
-use Rattle.message.specs.Kinds.{typeOf}
+use Rattle.message.specs.Kinds.{ms, cl, clr, ack1, ack2, typeOf}
 use Rattle.message.specs.Reader.{listRoom, Reading, refused, accepted, readMessage}
 use Rattle.table.specs.declared.Heard.{Heard}
-use Rattle.table.specs.declared.Heard.the-variants.{StartMrE, StartMrD, StartCrE, StartCrD, StartMs, StartCl, StartClr, HeardMrE, HeardMrD, HeardCrE, HeardCrD, GotMs, GotCl, GotClr, GotAck1, GotAck2, GotNak, AnswerTone, Spoilt}
-use Rattle.station.specs.declared.Start.{Start}
-use Rattle.station.specs.declared.Start.the-variants.{MrEFirst, MrDFirst, CrEFirst, CrDFirst, MsFirst, ClFirst, ClrFirst}
-use Rattle.station.specs.declared.Signal.{Signal}
-use Rattle.station.specs.declared.Signal.the-variants.{MrE, MrD, CrE, CrD}
+use Rattle.table.specs.declared.Heard.the-variants as heard
 use Rattle.station.specs.declared.Event.{Event}
-use Rattle.station.specs.declared.Event.the-variants.{Begin, Tones, Field, InvalidFrame, Answer, Reset}
+use Rattle.station.specs.declared.Event.the-variants as events
 
-abbrev pub startHeard : Start → Heard
-startHeard MrEFirst = StartMrE
-startHeard MrDFirst = StartMrD
-startHeard CrEFirst = StartCrE
-startHeard CrDFirst = StartCrD
-startHeard MsFirst = StartMs
-startHeard ClFirst = StartCl
-startHeard ClrFirst = StartClr
-
-abbrev pub signalHeard : Signal → Heard
-signalHeard MrE = HeardMrE
-signalHeard MrD = HeardMrD
-signalHeard CrE = HeardCrE
-signalHeard CrD = HeardCrD
-
--- a message by its type: MS 1, CL 2, CLR 3, ACK(1) 4, ACK(2) 5, else a NAK
+-- a message by its type, else a NAK
 abbrev pub typeHeard : ℕ → Heard
 typeHeard k =
-    pick (eqb k 1) GotMs
-    (pick (eqb k 2) GotCl
-    (pick (eqb k 3) GotClr
-    (pick (eqb k 4) GotAck1
-    (pick (eqb k 5) GotAck2
-    GotNak))))
+    pick (eqb k ms) heard.Ms
+    (pick (eqb k cl) heard.Cl
+    (pick (eqb k clr) heard.Clr
+    (pick (eqb k ack1) heard.Ack1
+    (pick (eqb k ack2) heard.Ack2
+    heard.Nak))))
 
 pub data Sort : Type 0 where
   known : Heard → Sort
@@ -46,13 +27,13 @@ pub data Sort : Type 0 where
 
 -- a field by what the message reader says: 3 is an unknown type, 2 and 4 are spoilt
 abbrev pub fieldHeard : Reading → List ℕ → Sort
-fieldHeard accepted m = known (typeHeard (typeOf m))
-fieldHeard (refused k) m = pick (eqb k 3) strange (known Spoilt)
+fieldHeard accepted field = known (typeHeard (typeOf field))
+fieldHeard (refused k) field = pick (eqb k 3) strange (known heard.Spoilt)
 
 abbrev pub sortOf : Event → List ℕ → Sort
-sortOf (Begin s) m = known (startHeard s)
-sortOf (Tones s) m = known (signalHeard s)
-sortOf Field m = fieldHeard (readMessage m listRoom) m
-sortOf InvalidFrame m = known Spoilt
-sortOf Answer m = known AnswerTone
-sortOf Reset m = strange
+sortOf (events.Start s) field = known (heard.Start s)
+sortOf (events.Signal s) field = known (heard.Signal s)
+sortOf events.Field field = fieldHeard (readMessage field listRoom) field
+sortOf events.InvalidFrame field = known heard.Spoilt
+sortOf events.AnswerTone field = known heard.AnswerTone
+sortOf events.Reset field = strange

@@ -13,24 +13,23 @@ use Rattle.choice.specs.Tables.{goodOwn, allInside}
 use Rattle.table.specs.declared.Phase.{Phase}
 use Rattle.table.specs.declared.Phase.the-variants.{Initial}
 use Rattle.table.specs.declared.Kind.{Kind}
-use Rattle.table.specs.declared.Kind.the-variants.{AtInitial, AtAskedE, AtAskedD, AtListsE, AtListsD, AtCounter, AtListed, AtTraded, AtPair, AtHalf, AtProposed, AtMode}
 use Rattle.table.specs.declared.Settings.{Settings}
 use Rattle.table.specs.declared.State.{State}
-use Rattle.table.specs.Phases.{kindOf, entryOf, ackOf, isOver}
+use Rattle.table.specs.Phases.{kindOf, entryOf, ackOf, isMode, isOver}
 use Rattle.table.specs.Rows.{actOf}
 use Rattle.station.specs.Sorting.{Sort, known, strange, sortOf}
 use Rattle.station.specs.Acting.{Outcome, quiet, does}
 use Rattle.station.specs.declared.Event.{Event}
-use Rattle.station.specs.declared.Event.the-variants.{Begin, Tones, Field, InvalidFrame, Answer, Reset}
+use Rattle.station.specs.declared.Event.the-variants as events
 use Rattle.station.specs.declared.Sends.{Sends}
 use Rattle.station.specs.declared.Told.{Told}
-use Rattle.station.specs.declared.Told.the-variants.{Done, SmallBuffers, BadOwn, BadWishes, Outside, TimeBefore, TimedOut, UnknownType, NotInTable, NothingToPropose}
+use Rattle.station.specs.declared.Told.the-variants.{Done, BadLent, BadOwn, BadWishes, Outside, TimeBefore, TimedOut, UnknownType, NotInTable, NothingToPropose}
 use Rattle.station.specs.declared.Stepped.{Stepped}
 
 -- the rules' number of what a step tells, 0 for success
 abbrev pub toldNo : Told → ℕ
 toldNo Done = 0
-toldNo SmallBuffers = 1
+toldNo BadLent = 1
 toldNo BadOwn = 2
 toldNo BadWishes = 3
 toldNo Outside = 4
@@ -50,58 +49,44 @@ storeRoom = 64
 abbrev pub longest : ℕ
 longest = 5000
 
-abbrev pub isMode : Kind → Bool
-isMode AtInitial = false
-isMode AtAskedE = false
-isMode AtAskedD = false
-isMode AtListsE = false
-isMode AtListsD = false
-isMode AtCounter = false
-isMode AtListed = false
-isMode AtTraded = false
-isMode AtPair = false
-isMode AtHalf = false
-isMode AtProposed = false
-isMode AtMode = true
-
 abbrev pub isLate : Kind → ℕ → ℕ → Bool
 isLate k entry time = pick (isOver k) false (ltb longest (time - entry))
 
 -- what a known event does by the table; 9 for a message of unknown type
 abbrev pub sorted : Sort → Phase → Settings → List ℕ → List ℕ → List ℕ → ℕ → Outcome
-sorted (known h) p set own run m time = does (actOf (kindOf p) set (ackOf p) h) p set own run m time
-sorted strange p set own run m time = quiet 9 p
+sorted (known h) p settings own wishes field time = does (actOf (kindOf p) settings (ackOf p) h) p settings own wishes field time
+sorted strange p settings own wishes field time = quiet 9 p
 
 -- 5, 6, 10 in Mode, and then the event
 unfoldable pub timed : Phase → Settings → List ℕ → List ℕ → Event → List ℕ → ℕ → Outcome
-timed p set own run event m time =
+timed p settings own wishes event field time =
     pick (ltb time (entryOf p)) (quiet 5 p)
     (pick (isLate (kindOf p) (entryOf p) time) (quiet 6 (Initial time))
     (pick (isMode (kindOf p)) (quiet 10 p)
-    (sorted (sortOf event m) p set own run m time)))
+    (sorted (sortOf event field) p settings own wishes field time)))
 
 -- 1 to 4, and then the time
 unfoldable pub checked : Phase → Settings → List ℕ → List ℕ → Event → List ℕ → ℕ → ℕ → ℕ → Outcome
-checked p set own run event m time outSize storeSize =
+checked p settings own wishes event field time outSize storeSize =
     pick (ltb outSize outputRoom) (quiet 1 p)
     (pick (ltb storeSize storeRoom) (quiet 1 p)
     (pick (not (goodOwn own)) (quiet 2 p)
-    (pick (not (goodWishes run)) (quiet 3 p)
-    (pick (not (allInside own (wishesOf run))) (quiet 4 p)
-    (timed p set own run event m time)))))
+    (pick (not (goodWishes wishes)) (quiet 3 p)
+    (pick (not (allInside own (wishesOf wishes))) (quiet 4 p)
+    (timed p settings own wishes event field time)))))
 
 abbrev pub isReset : Event → Bool
-isReset (Begin s) = false
-isReset (Tones s) = false
-isReset Field = false
-isReset InvalidFrame = false
-isReset Answer = false
-isReset Reset = true
+isReset (events.Start s) = false
+isReset (events.Signal s) = false
+isReset events.Field = false
+isReset events.InvalidFrame = false
+isReset events.AnswerTone = false
+isReset events.Reset = true
 
 -- reset gives Initial with no check at all
 unfoldable pub stepOf : Phase → Settings → List ℕ → List ℕ → Event → List ℕ → ℕ → ℕ → ℕ → Outcome
-stepOf p set own run event m time outSize storeSize =
-    pick (isReset event) (quiet 0 (Initial time)) (checked p set own run event m time outSize storeSize)
+stepOf p settings own wishes event field time outSize storeSize =
+    pick (isReset event) (quiet 0 (Initial time)) (checked p settings own wishes event field time outSize storeSize)
 
 -- a reply: the rules' number, 0 for success, the signal, the lengths of the fields sent and of what was stored, and the next phase
 pub record Reply : Type 0 where

@@ -12,21 +12,25 @@ use borrow.Author.Tests.{ltb-true}
 use Rattle.table.specs.declared.Kind.{Kind}
 use Rattle.table.specs.declared.Kind.the-variants.{AtInitial, AtAskedE, AtAskedD, AtListsE, AtListsD, AtCounter, AtListed, AtTraded, AtPair, AtHalf, AtProposed, AtMode}
 use Rattle.table.specs.declared.Heard.{Heard}
-use Rattle.table.specs.declared.Heard.the-variants.{StartMrE, StartMrD, StartCrE, StartCrD, StartMs, StartCl, StartClr, HeardMrE, HeardMrD, HeardCrE, HeardCrD, GotMs, GotCl, GotClr, GotAck1, GotAck2, GotNak, AnswerTone, Spoilt}
+use Rattle.table.specs.declared.Heard.the-variants as heard
+use Rattle.table.specs.declared.Signal.{Signal}
+use Rattle.table.specs.declared.Signal.the-variants.{MrE, MrD, CrE, CrD}
+use Rattle.table.specs.declared.Start.{Start}
+use Rattle.table.specs.declared.Start.the-variants as start
 use Rattle.table.specs.declared.Act.{Act}
-use Rattle.table.specs.declared.Act.the-variants.{NoRow, CounterMrD, SendCrD, Propose, SendCl, PairClr, Agree, GiveUp, SendNak1}
+use Rattle.table.specs.declared.Act.the-variants.{NoRow, SendSignal, CounterMrD, Propose, SendCl, PairClr, Agree, GiveUp, SendNak1}
 use Rattle.table.specs.declared.OnMrE.{OnMrE}
-use Rattle.table.specs.declared.OnMrE.the-variants.{WithMs, WithMrD, WithCrD}
+use Rattle.table.specs.declared.OnMrE.the-variants as on-mr-e
 use Rattle.table.specs.declared.OnCrD.{OnCrD}
-use Rattle.table.specs.declared.OnCrD.the-variants.{WithCl, WithClr}
+use Rattle.table.specs.declared.OnCrD.the-variants as on-cr-d
 use Rattle.table.specs.declared.OnCrE.{OnCrE}
-use Rattle.table.specs.declared.OnCrE.the-variants.{AsOnCrD, ByCrD}
+use Rattle.table.specs.declared.OnCrE.the-variants as on-cr-e
 use Rattle.table.specs.declared.OnMrD.{OnMrD}
-use Rattle.table.specs.declared.OnMrD.the-variants.{ByMs, ByLists}
+use Rattle.table.specs.declared.OnMrD.the-variants as on-mr-d
 use Rattle.table.specs.declared.Row.{Row}
 use Rattle.table.specs.declared.Settings.{Settings}
 use Rattle.table.specs.Phases.{isOver}
-use Rattle.table.specs.Rows.{onMrE, onMrD, onCrD, onCrE, initialAct, rowAct, toneAct, actOf}
+use Rattle.table.specs.Rows.{onMrE, onMrD, onCrD, onCrE, startAct, signalAct, initialAct, rowSignal, rowAct, toneAct, actOf}
 use Rattle.table.specs.Bound.{leadsTo, isActed, Turn, actAt, kindAfter, GoesOn}
 
 -- ---- the test
@@ -56,78 +60,81 @@ Falls k a = (not (isActed a) || isFewer k a true && isFewer k a false) ≡ true
 
 -- ---- what holds of each entry holds of all
 
-of-row : (P : Act → Type 0) {r : Row} → P NoRow → P GiveUp → P SendNak1 → P (r .mrd) → P (r .crd) → P (r .ms) → P (r .cl) → P (r .clr) → P (r .ack) → P (r .tone) → (h : Heard) → P (rowAct r h)
-of-row P none nak bad mrd crd ms cl clr ack tone StartMrE = none
-of-row P none nak bad mrd crd ms cl clr ack tone StartMrD = none
-of-row P none nak bad mrd crd ms cl clr ack tone StartCrE = none
-of-row P none nak bad mrd crd ms cl clr ack tone StartCrD = none
-of-row P none nak bad mrd crd ms cl clr ack tone StartMs = none
-of-row P none nak bad mrd crd ms cl clr ack tone StartCl = none
-of-row P none nak bad mrd crd ms cl clr ack tone StartClr = none
-of-row P none nak bad mrd crd ms cl clr ack tone HeardMrE = none
-of-row P none nak bad mrd crd ms cl clr ack tone HeardMrD = mrd
-of-row P none nak bad mrd crd ms cl clr ack tone HeardCrE = none
-of-row P none nak bad mrd crd ms cl clr ack tone HeardCrD = crd
-of-row P none nak bad mrd crd ms cl clr ack tone GotMs = ms
-of-row P none nak bad mrd crd ms cl clr ack tone GotCl = cl
-of-row P none nak bad mrd crd ms cl clr ack tone GotClr = clr
-of-row P none nak bad mrd crd ms cl clr ack tone GotAck1 = ack
-of-row P none nak bad mrd crd ms cl clr ack tone GotAck2 = none
-of-row P none nak bad mrd crd ms cl clr ack tone GotNak = nak
-of-row P none nak bad mrd crd ms cl clr ack tone AnswerTone = tone
-of-row P none nak bad mrd crd ms cl clr ack tone Spoilt = bad
+pub of-signal : (P : Act → Type 0) {r : Row} → P NoRow → P (r .«mr_d») → P (r .«cr_d») → (x : Signal) → P (rowSignal r x)
+of-signal P none mr-d cr-d MrE = none
+of-signal P none mr-d cr-d MrD = mr-d
+of-signal P none mr-d cr-d CrE = none
+of-signal P none mr-d cr-d CrD = cr-d
 
-of-mr-e : (P : Act → Type 0) → P Propose → P CounterMrD → P SendCrD → (set : OnMrE) → P (onMrE set)
-of-mr-e P ms mrd crd WithMs = ms
-of-mr-e P ms mrd crd WithMrD = mrd
-of-mr-e P ms mrd crd WithCrD = crd
+of-row : (P : Act → Type 0) {r : Row} → P NoRow → P GiveUp → P SendNak1 → P (r .«mr_d») → P (r .«cr_d») → P (r .ms) → P (r .cl) → P (r .clr) → P (r .ack1) → P (r .tone) → (h : Heard) → P (rowAct r h)
+of-row P none nak bad mr-d cr-d ms cl clr ack tone (heard.Start x) = none
+of-row P none nak bad mr-d cr-d ms cl clr ack tone (heard.Signal x) = of-signal P none mr-d cr-d x
+of-row P none nak bad mr-d cr-d ms cl clr ack tone heard.Ms = ms
+of-row P none nak bad mr-d cr-d ms cl clr ack tone heard.Cl = cl
+of-row P none nak bad mr-d cr-d ms cl clr ack tone heard.Clr = clr
+of-row P none nak bad mr-d cr-d ms cl clr ack tone heard.Ack1 = ack
+of-row P none nak bad mr-d cr-d ms cl clr ack tone heard.Ack2 = none
+of-row P none nak bad mr-d cr-d ms cl clr ack tone heard.Nak = nak
+of-row P none nak bad mr-d cr-d ms cl clr ack tone heard.AnswerTone = tone
+of-row P none nak bad mr-d cr-d ms cl clr ack tone heard.Spoilt = bad
 
-of-mr-d : (P : Act → Type 0) → P Propose → P SendCrD → (set : OnMrD) → P (onMrD set)
-of-mr-d P ms crd ByMs = ms
-of-mr-d P ms crd ByLists = crd
+pub of-mr-e : (P : Act → Type 0) → P Propose → P CounterMrD → P (SendSignal CrD) → (set : OnMrE) → P (onMrE set)
+of-mr-e P ms mr-d cr-d on-mr-e.Ms = ms
+of-mr-e P ms mr-d cr-d on-mr-e.MrD = mr-d
+of-mr-e P ms mr-d cr-d on-mr-e.CrD = cr-d
 
-of-cr-d : (P : Act → Type 0) → P SendCl → P PairClr → (set : OnCrD) → P (onCrD set)
-of-cr-d P cl clr WithCl = cl
-of-cr-d P cl clr WithClr = clr
+pub of-mr-d : (P : Act → Type 0) → P Propose → P (SendSignal CrD) → (set : OnMrD) → P (onMrD set)
+of-mr-d P ms cr-d on-mr-d.Ms = ms
+of-mr-d P ms cr-d on-mr-d.CrD = cr-d
 
-of-cr-e : (P : Act → Type 0) (display : OnCrD) → P (onCrD display) → P SendCrD → (set : OnCrE) → P (onCrE set display)
-of-cr-e P display same crd AsOnCrD = same
-of-cr-e P display same crd ByCrD = crd
+pub of-cr-d : (P : Act → Type 0) → P SendCl → P PairClr → (set : OnCrD) → P (onCrD set)
+of-cr-d P cl clr on-cr-d.Cl = cl
+of-cr-d P cl clr on-cr-d.Clr = clr
 
-of-tone : (P : Act → Type 0) → P NoRow → P Agree → (asked : Bool) → P (toneAct asked)
+pub of-cr-e : (P : Act → Type 0) (display : OnCrD) → P (onCrD display) → P (SendSignal CrD) → (set : OnCrE) → P (onCrE set display)
+of-cr-e P display same cr-d on-cr-e.AsOnCrD = same
+of-cr-e P display same cr-d on-cr-e.CrD = cr-d
+
+pub of-tone : (P : Act → Type 0) → P NoRow → P Agree → (asked : Bool) → P (toneAct asked)
 of-tone P none agree true = none
 of-tone P none agree false = agree
 
 -- ---- every entry of the table falls
 
+start-falls : (x : Start) → Falls AtInitial (startAct x)
+start-falls start.MrE = refl
+start-falls start.MrD = refl
+start-falls start.CrE = refl
+start-falls start.CrD = refl
+start-falls start.Ms = refl
+start-falls start.Cl = refl
+start-falls start.Clr = refl
+
+signal-falls : (s : Settings) (x : Signal) → Falls AtInitial (signalAct s x)
+signal-falls s MrE = of-mr-e (Falls AtInitial) refl refl refl (s .«on_mr_e»)
+signal-falls s MrD = refl
+signal-falls s CrE = of-cr-e (Falls AtInitial) (s .«on_cr_d») (of-cr-d (Falls AtInitial) refl refl (s .«on_cr_d»)) refl (s .«on_cr_e»)
+signal-falls s CrD = of-cr-d (Falls AtInitial) refl refl (s .«on_cr_d»)
+
 initial-falls : (s : Settings) (h : Heard) → Falls AtInitial (initialAct s h)
-initial-falls s StartMrE = refl
-initial-falls s StartMrD = refl
-initial-falls s StartCrE = refl
-initial-falls s StartCrD = refl
-initial-falls s StartMs = refl
-initial-falls s StartCl = refl
-initial-falls s StartClr = refl
-initial-falls s HeardMrE = of-mr-e (Falls AtInitial) refl refl refl (s .mre)
-initial-falls s HeardMrD = refl
-initial-falls s HeardCrE = of-cr-e (Falls AtInitial) (s .crd) (of-cr-d (Falls AtInitial) refl refl (s .crd)) refl (s .cre)
-initial-falls s HeardCrD = of-cr-d (Falls AtInitial) refl refl (s .crd)
-initial-falls s GotMs = refl
-initial-falls s GotCl = refl
-initial-falls s GotClr = refl
-initial-falls s GotAck1 = refl
-initial-falls s GotAck2 = refl
-initial-falls s GotNak = refl
-initial-falls s AnswerTone = refl
-initial-falls s Spoilt = refl
+initial-falls s (heard.Start x) = start-falls x
+initial-falls s (heard.Signal x) = signal-falls s x
+initial-falls s heard.Ms = refl
+initial-falls s heard.Cl = refl
+initial-falls s heard.Clr = refl
+initial-falls s heard.Ack1 = refl
+initial-falls s heard.Ack2 = refl
+initial-falls s heard.Nak = refl
+initial-falls s heard.AnswerTone = refl
+initial-falls s heard.Spoilt = refl
 
 table-falls : (k : Kind) (s : Settings) (a : Bool) (h : Heard) → Falls k (actOf k s a h)
 table-falls AtInitial s a h = initial-falls s h
-table-falls AtAskedE s a h = of-row (Falls AtAskedE) refl refl refl (of-mr-d (Falls AtAskedE) refl refl (s .mrd)) (of-cr-d (Falls AtAskedE) refl refl (s .crd)) refl refl refl refl refl h
+table-falls AtAskedE s a h = of-row (Falls AtAskedE) refl refl refl (of-mr-d (Falls AtAskedE) refl refl (s .«on_mr_d»)) (of-cr-d (Falls AtAskedE) refl refl (s .«on_cr_d»)) refl refl refl refl refl h
 table-falls AtAskedD s a h = of-row (Falls AtAskedD) refl refl refl refl refl refl refl refl refl refl h
-table-falls AtListsE s a h = of-row (Falls AtListsE) refl refl refl refl (of-cr-d (Falls AtListsE) refl refl (s .crd)) refl refl refl refl refl h
+table-falls AtListsE s a h = of-row (Falls AtListsE) refl refl refl refl (of-cr-d (Falls AtListsE) refl refl (s .«on_cr_d»)) refl refl refl refl refl h
 table-falls AtListsD s a h = of-row (Falls AtListsD) refl refl refl refl refl refl refl refl refl refl h
-table-falls AtCounter s a h = of-row (Falls AtCounter) refl refl refl refl (of-cr-d (Falls AtCounter) refl refl (s .crd)) refl refl refl refl refl h
+table-falls AtCounter s a h = of-row (Falls AtCounter) refl refl refl refl (of-cr-d (Falls AtCounter) refl refl (s .«on_cr_d»)) refl refl refl refl refl h
 table-falls AtListed s a h = of-row (Falls AtListed) refl refl refl refl refl refl refl refl refl refl h
 table-falls AtTraded s a h = of-row (Falls AtTraded) refl refl refl refl refl refl refl refl refl refl h
 table-falls AtPair s a h = of-row (Falls AtPair) refl refl refl refl refl refl refl refl refl refl h
@@ -165,6 +172,6 @@ abbrev pub turn : Settings → Bool → Bool → Heard → Turn
 turn s a f h = record { heard = h; set = s; asked = a; found = f }
 
 -- and none need end it earlier: MR_e is started, CR_d is heard and answered by CLR, CL is heard, and an MS is still due
-pub three-go-on : (s : Settings) → s .crd ≡ WithClr → (a f : Bool) → GoesOn AtInitial (turn s a f StartMrE ∷ turn s a f HeardCrD ∷ turn s a f GotCl ∷ [])
+pub three-go-on : (s : Settings) → s .«on_cr_d» ≡ on-cr-d.Clr → (a f : Bool) → GoesOn AtInitial (turn s a f (heard.Start start.MrE) ∷ turn s a f (heard.Signal CrD) ∷ turn s a f heard.Cl ∷ [])
 unfolding GoesOn
 three-go-on s pairs a f = rw pairs (refl, refl, (refl, refl, (refl, refl, tt)))

@@ -1,2 +1,3 @@
 pub mod FourEvents
 pub mod Lines
+pub mod Needing

@@ -8,7 +8,9 @@ use Rattle.table.specs.declared.Kind.{Kind}
 use Rattle.table.specs.declared.Kind.the-variants.{AtInitial, AtAskedE, AtAskedD, AtListsE, AtListsD, AtCounter, AtListed, AtTraded, AtPair, AtHalf, AtProposed, AtMode}
 use Rattle.table.specs.declared.Heard.{Heard}
 use Rattle.table.specs.declared.Act.{Act}
-use Rattle.table.specs.declared.Act.the-variants.{NoRow, SendMrE, SendMrD, CounterMrD, SendCrE, SendCrD, Propose, SendCl, SendClr, PairClr, Take, Judge, Agree, GiveUp, SendNak1}
+use Rattle.table.specs.declared.Signal.{Signal}
+use Rattle.table.specs.declared.Signal.the-variants.{MrE, MrD, CrE, CrD}
+use Rattle.table.specs.declared.Act.the-variants.{NoRow, SendSignal, CounterMrD, Propose, SendCl, SendClr, PairClr, Take, Judge, Agree, GiveUp, SendNak1}
 use Rattle.table.specs.declared.After.{After}
 use Rattle.table.specs.declared.After.the-variants.{ThenMs, ThenClMs, ThenCl, ThenHalf}
 use Rattle.table.specs.declared.Settings.{Settings}
@@ -26,14 +28,18 @@ takenTo ThenClMs found = ifFound found AtProposed AtInitial
 takenTo ThenCl found = AtListed
 takenTo ThenHalf found = AtHalf
 
+-- a signal leads to the phase that waits for its answer
+abbrev pub signalTo : Signal → Kind
+signalTo MrE = AtAskedE
+signalTo MrD = AtAskedD
+signalTo CrE = AtListsE
+signalTo CrD = AtListsD
+
 -- the phase that an act leads to; found says that there was a choice, or that the MS was accepted
 abbrev pub leadsTo : Act → Bool → Kind → Kind
 leadsTo NoRow found k = k
-leadsTo SendMrE found k = AtAskedE
-leadsTo SendMrD found k = AtAskedD
+leadsTo (SendSignal s) found k = signalTo s
 leadsTo CounterMrD found k = AtCounter
-leadsTo SendCrE found k = AtListsE
-leadsTo SendCrD found k = AtListsD
 leadsTo Propose found k = ifFound found AtProposed AtInitial
 leadsTo SendCl found k = AtListed
 leadsTo SendClr found k = AtTraded
@@ -46,11 +52,8 @@ leadsTo SendNak1 found k = AtInitial
 
 abbrev pub isActed : Act → Bool
 isActed NoRow = false
-isActed SendMrE = true
-isActed SendMrD = true
+isActed (SendSignal s) = true
 isActed CounterMrD = true
-isActed SendCrE = true
-isActed SendCrD = true
 isActed Propose = true
 isActed SendCl = true
 isActed SendClr = true

@@ -1,5 +1,5 @@
 pub mod Phases
 pub mod Rows
-pub mod Among
 pub mod Contracts
 pub mod Bound
+pub mod Inner

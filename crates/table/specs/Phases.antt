@@ -1,82 +1,68 @@
--- To be believed: a phase, by its name, the time it was entered and what it carries of an MS; and whether a transaction is over in it.
+-- To be believed: a phase, by its name, the time it was entered and what it carries of an MS; its number, and whether it is one of
+-- some; and whether a transaction is over in it.
 -- Assumes nothing.
 use Prim.Native.Nat.{ℕ}
-use mathlib.Core.Bool.{Bool, true, false}
+use mathlib.Core.Bool.{Bool, true, false, _||_}
+use mathlib.Core.List.{List, [], _∷_}
+use lib.Dec.{eqb}
 use Rattle.table.specs.declared.Phase.{Phase}
 use Rattle.table.specs.declared.Phase.the-variants.{Initial, AskedE, AskedD, ListsE, ListsD, Counter, Listed, Traded, Pair, Half, Proposed, Mode}
 use Rattle.table.specs.declared.Kind.{Kind}
 use Rattle.table.specs.declared.Kind.the-variants.{AtInitial, AtAskedE, AtAskedD, AtListsE, AtListsD, AtCounter, AtListed, AtTraded, AtPair, AtHalf, AtProposed, AtMode}
+use Rattle.table.specs.declared.Carried.{Carried}
+
+abbrev pub carried : Kind → ℕ → ℕ → Bool → Carried
+carried k t w a = record { kind = k; entry = t; wish = w; ack = a }
+
+-- the name, the time of entry, the number of the wish sent (0 if none), and whether ACK was asked
+abbrev pub carriedBy : Phase → Carried
+carriedBy (Initial t) = carried AtInitial t 0 false
+carriedBy (AskedE t) = carried AtAskedE t 0 false
+carriedBy (AskedD t) = carried AtAskedD t 0 false
+carriedBy (ListsE t) = carried AtListsE t 0 false
+carriedBy (ListsD t) = carried AtListsD t 0 false
+carriedBy (Counter t) = carried AtCounter t 0 false
+carriedBy (Listed t) = carried AtListed t 0 false
+carriedBy (Traded t) = carried AtTraded t 0 false
+carriedBy (Pair t) = carried AtPair t 0 false
+carriedBy (Half t) = carried AtHalf t 0 false
+carriedBy (Proposed t w a) = carried AtProposed t w a
+carriedBy (Mode t w a) = carried AtMode t w a
 
 abbrev pub kindOf : Phase → Kind
-kindOf (Initial t) = AtInitial
-kindOf (AskedE t) = AtAskedE
-kindOf (AskedD t) = AtAskedD
-kindOf (ListsE t) = AtListsE
-kindOf (ListsD t) = AtListsD
-kindOf (Counter t) = AtCounter
-kindOf (Listed t) = AtListed
-kindOf (Traded t) = AtTraded
-kindOf (Pair t) = AtPair
-kindOf (Half t) = AtHalf
-kindOf (Proposed t w a) = AtProposed
-kindOf (Mode t w a) = AtMode
+kindOf p = carriedBy p .kind
 
--- the time it was entered
 abbrev pub entryOf : Phase → ℕ
-entryOf (Initial t) = t
-entryOf (AskedE t) = t
-entryOf (AskedD t) = t
-entryOf (ListsE t) = t
-entryOf (ListsD t) = t
-entryOf (Counter t) = t
-entryOf (Listed t) = t
-entryOf (Traded t) = t
-entryOf (Pair t) = t
-entryOf (Half t) = t
-entryOf (Proposed t w a) = t
-entryOf (Mode t w a) = t
+entryOf p = carriedBy p .entry
 
--- the number of the wish sent, 0 if none
 abbrev pub wishOf : Phase → ℕ
-wishOf (Initial t) = 0
-wishOf (AskedE t) = 0
-wishOf (AskedD t) = 0
-wishOf (ListsE t) = 0
-wishOf (ListsD t) = 0
-wishOf (Counter t) = 0
-wishOf (Listed t) = 0
-wishOf (Traded t) = 0
-wishOf (Pair t) = 0
-wishOf (Half t) = 0
-wishOf (Proposed t w a) = w
-wishOf (Mode t w a) = w
+wishOf p = carriedBy p .wish
 
--- whether ACK was asked
 abbrev pub ackOf : Phase → Bool
-ackOf (Initial t) = false
-ackOf (AskedE t) = false
-ackOf (AskedD t) = false
-ackOf (ListsE t) = false
-ackOf (ListsD t) = false
-ackOf (Counter t) = false
-ackOf (Listed t) = false
-ackOf (Traded t) = false
-ackOf (Pair t) = false
-ackOf (Half t) = false
-ackOf (Proposed t w a) = a
-ackOf (Mode t w a) = a
+ackOf p = carriedBy p .ack
+
+-- a number for each, to compare them
+abbrev pub kindNumber : Kind → ℕ
+kindNumber AtInitial = 0
+kindNumber AtAskedE = 1
+kindNumber AtAskedD = 2
+kindNumber AtListsE = 3
+kindNumber AtListsD = 4
+kindNumber AtCounter = 5
+kindNumber AtListed = 6
+kindNumber AtTraded = 7
+kindNumber AtPair = 8
+kindNumber AtHalf = 9
+kindNumber AtProposed = 10
+kindNumber AtMode = 11
+
+abbrev pub isAmong : Kind → List Kind → Bool
+isAmong k [] = false
+isAmong k (x ∷ xs) = eqb (kindNumber k) (kindNumber x) || isAmong k xs
+
+abbrev pub isMode : Kind → Bool
+isMode k = isAmong k (AtMode ∷ [])
 
 -- a transaction is over in these
 abbrev pub isOver : Kind → Bool
-isOver AtInitial = true
-isOver AtAskedE = false
-isOver AtAskedD = false
-isOver AtListsE = false
-isOver AtListsD = false
-isOver AtCounter = false
-isOver AtListed = false
-isOver AtTraded = false
-isOver AtPair = false
-isOver AtHalf = false
-isOver AtProposed = false
-isOver AtMode = true
+isOver k = isAmong k (AtMode ∷ AtInitial ∷ [])

@@ -1,8 +1,8 @@
 // The station's phases, what it can hear, how it is set, and its table (RULES, The station): from a phase and what was heard to
-// what is done.
+// what is done. Signals and messages have one spelling everywhere: MR_e is MrE, or mr_e in a name of more words.
 ghost use mathlib.Core.Path.{_≡_};
-ghost use Rattle.table.specs.Rows.{onMrE, onMrD, onCrD, onCrE, initialAct, rowAct, toneAct, row};
-ghost use Rattle.table.specs.Contracts.{TellsKind, TellsEntry, TellsWish, TellsAck, TellsOver, TellsAct};
+ghost use Rattle.table.specs.Rows.{onMrE, onMrD, onCrD, onCrE, startAct, signalAct, initialAct, rowSignal, rowAct, toneAct, judgingRow, takingRow, agreeingRow};
+ghost use Rattle.table.specs.Contracts.{TellsCarried, TellsNumber, TellsOver, TellsMode, TellsAct};
 
 // A phase with what it carries: the time it was entered (milliseconds), and where an MS was sent or accepted the number of the wish
 // sent, 0 if none, and whether ACK was asked.
@@ -42,61 +42,79 @@ pub enum Kind {
     AtMode,
 }
 
-// What to answer on MR_e: an MS, MR_d or CR_d.
-pub enum OnMrE {
-    WithMs,
-    WithMrD,
-    WithCrD,
+// A phase's name, and what it carries; where it carries no wish and no ACK, 0 and false.
+pub struct Carried {
+    pub kind: Kind,
+    pub entry: u64,
+    pub wish: u8,
+    pub ack: bool,
 }
 
-// What to answer on CR_d: a CL or a CLR.
+// A signal, heard or sent.
+pub enum Signal {
+    MrE,
+    MrD,
+    CrE,
+    CrD,
+}
+
+// What a transaction begins with: a signal or a message.
+pub enum Start {
+    MrE,
+    MrD,
+    CrE,
+    CrD,
+    Ms,
+    Cl,
+    Clr,
+}
+
+// What to answer on MR_e.
+pub enum OnMrE {
+    Ms,
+    MrD,
+    CrD,
+}
+
+// What to answer on CR_d.
 pub enum OnCrD {
-    WithCl,
-    WithClr,
+    Cl,
+    Clr,
 }
 
 // What to answer on CR_e: the same as on CR_d, or CR_d.
 pub enum OnCrE {
     AsOnCrD,
-    ByCrD,
+    CrD,
 }
 
-// What to answer on MR_d when MR_e was asked: an MS or CR_d.
+// What to answer on MR_d when MR_e was asked.
 pub enum OnMrD {
-    ByMs,
-    ByLists,
+    Ms,
+    CrD,
 }
 
 // How the station is set: what it offers, whether it asks for ACK(1), and what it answers.
 pub struct Settings {
-    pub eight: bool,
-    pub short: bool,
+    pub v8: bool,
+    pub short_v8: bool,
     pub ack: bool,
-    pub mre: OnMrE,
-    pub crd: OnCrD,
-    pub cre: OnCrE,
-    pub mrd: OnMrD,
+    pub on_mr_e: OnMrE,
+    pub on_cr_d: OnCrD,
+    pub on_cr_e: OnCrE,
+    pub on_mr_d: OnMrD,
 }
 
-// What was heard, or is to be started.
+// What comes to the table: a start, a signal, a message by its type, the answer tone, or what is spoilt.
 pub enum Heard {
-    StartMrE,
-    StartMrD,
-    StartCrE,
-    StartCrD,
-    StartMs,
-    StartCl,
-    StartClr,
-    HeardMrE,
-    HeardMrD,
-    HeardCrE,
-    HeardCrD,
-    GotMs,
-    GotCl,
-    GotClr,
-    GotAck1,
-    GotAck2,
-    GotNak,
+    Start(Start),
+    Signal(Signal),
+    Ms,
+    Cl,
+    Clr,
+    Ack1,
+    Ack2,
+    Nak,
     AnswerTone,
     Spoilt,
 }
@@ -112,11 +130,8 @@ pub enum After {
 // What is done.
 pub enum Act {
     NoRow,
-    SendMrE,
-    SendMrD,
+    SendSignal(Signal),
     CounterMrD,
-    SendCrE,
-    SendCrD,
     Propose,
     SendCl,
     SendClr,
@@ -129,123 +144,102 @@ pub enum Act {
 }
 
 // A row of the table: what is done when each thing is heard that some phase but Initial and Mode acts on.
-pub struct Row {
-    pub mrd: Act,
-    pub crd: Act,
-    pub ms: Act,
-    pub cl: Act,
-    pub clr: Act,
-    pub ack: Act,
-    pub tone: Act,
+struct Row {
+    mr_d: Act,
+    cr_d: Act,
+    ms: Act,
+    cl: Act,
+    clr: Act,
+    ack1: Act,
+    tone: Act,
 }
 
-// A phase's name.
-pub fn kind_of(phase: Phase) -> Kind
-    ensures { λ r. ⌜ TellsKind phase r ⌝ }
+// A phase that carries nothing but the time it was entered.
+fn bare(kind: Kind, entry: u64) -> Carried
+    ensures { λ r. ⌜ r ≡ record { kind = kind; entry = entry; wish = 0; ack = false } ⌝ }
 {
-    match phase {
-        Phase::Initial(_) => Kind::AtInitial,
-        Phase::AskedE(_) => Kind::AtAskedE,
-        Phase::AskedD(_) => Kind::AtAskedD,
-        Phase::ListsE(_) => Kind::AtListsE,
-        Phase::ListsD(_) => Kind::AtListsD,
-        Phase::Counter(_) => Kind::AtCounter,
-        Phase::Listed(_) => Kind::AtListed,
-        Phase::Traded(_) => Kind::AtTraded,
-        Phase::Pair(_) => Kind::AtPair,
-        Phase::Half(_) => Kind::AtHalf,
-        Phase::Proposed(_, _, _) => Kind::AtProposed,
-        Phase::Mode(_, _, _) => Kind::AtMode,
+    Carried {
+        kind,
+        entry,
+        wish: 0,
+        ack: false,
     }
 }
 
-// The time it was entered.
-pub fn entry_of(phase: Phase) -> u64
-    ensures { λ r. ⌜ TellsEntry phase r ⌝ }
+// A phase's name, and what it carries.
+pub fn carried_by(phase: Phase) -> Carried
+    ensures { λ r. ⌜ TellsCarried phase r ⌝ }
 {
     match phase {
-        Phase::Initial(t) => t,
-        Phase::AskedE(t) => t,
-        Phase::AskedD(t) => t,
-        Phase::ListsE(t) => t,
-        Phase::ListsD(t) => t,
-        Phase::Counter(t) => t,
-        Phase::Listed(t) => t,
-        Phase::Traded(t) => t,
-        Phase::Pair(t) => t,
-        Phase::Half(t) => t,
-        Phase::Proposed(t, _, _) => t,
-        Phase::Mode(t, _, _) => t,
+        Phase::Initial(t) => bare(Kind::AtInitial, t),
+        Phase::AskedE(t) => bare(Kind::AtAskedE, t),
+        Phase::AskedD(t) => bare(Kind::AtAskedD, t),
+        Phase::ListsE(t) => bare(Kind::AtListsE, t),
+        Phase::ListsD(t) => bare(Kind::AtListsD, t),
+        Phase::Counter(t) => bare(Kind::AtCounter, t),
+        Phase::Listed(t) => bare(Kind::AtListed, t),
+        Phase::Traded(t) => bare(Kind::AtTraded, t),
+        Phase::Pair(t) => bare(Kind::AtPair, t),
+        Phase::Half(t) => bare(Kind::AtHalf, t),
+        Phase::Proposed(entry, wish, ack) => Carried {
+            kind: Kind::AtProposed,
+            entry,
+            wish,
+            ack,
+        },
+        Phase::Mode(entry, wish, ack) => Carried {
+            kind: Kind::AtMode,
+            entry,
+            wish,
+            ack,
+        },
     }
 }
 
-// The number of the wish sent, 0 if none.
-pub fn wish_of(phase: Phase) -> u8
-    ensures { λ r. ⌜ TellsWish phase r ⌝ }
+// A phase's number.
+pub fn number_of(kind: Kind) -> u8
+    ensures { λ r. ⌜ TellsNumber kind r ⌝ }
 {
-    match phase {
-        Phase::Initial(_) => 0,
-        Phase::AskedE(_) => 0,
-        Phase::AskedD(_) => 0,
-        Phase::ListsE(_) => 0,
-        Phase::ListsD(_) => 0,
-        Phase::Counter(_) => 0,
-        Phase::Listed(_) => 0,
-        Phase::Traded(_) => 0,
-        Phase::Pair(_) => 0,
-        Phase::Half(_) => 0,
-        Phase::Proposed(_, w, _) => w,
-        Phase::Mode(_, w, _) => w,
+    match kind {
+        Kind::AtInitial => 0,
+        Kind::AtAskedE => 1,
+        Kind::AtAskedD => 2,
+        Kind::AtListsE => 3,
+        Kind::AtListsD => 4,
+        Kind::AtCounter => 5,
+        Kind::AtListed => 6,
+        Kind::AtTraded => 7,
+        Kind::AtPair => 8,
+        Kind::AtHalf => 9,
+        Kind::AtProposed => 10,
+        Kind::AtMode => 11,
     }
 }
 
-// Whether ACK was asked.
-pub fn ack_of(phase: Phase) -> bool
-    ensures { λ r. ⌜ TellsAck phase r ⌝ }
+// Whether a phase is Mode.
+pub fn is_mode(kind: Kind) -> bool
+    ensures { λ r. ⌜ TellsMode kind r ⌝ }
 {
-    match phase {
-        Phase::Initial(_) => false,
-        Phase::AskedE(_) => false,
-        Phase::AskedD(_) => false,
-        Phase::ListsE(_) => false,
-        Phase::ListsD(_) => false,
-        Phase::Counter(_) => false,
-        Phase::Listed(_) => false,
-        Phase::Traded(_) => false,
-        Phase::Pair(_) => false,
-        Phase::Half(_) => false,
-        Phase::Proposed(_, _, a) => a,
-        Phase::Mode(_, _, a) => a,
-    }
+    number_of(kind) == number_of(Kind::AtMode)
 }
 
 // Whether a transaction is over in a phase.
 pub fn is_over(kind: Kind) -> bool
     ensures { λ r. ⌜ TellsOver kind r ⌝ }
 {
-    match kind {
-        Kind::AtInitial => true,
-        Kind::AtAskedE => false,
-        Kind::AtAskedD => false,
-        Kind::AtListsE => false,
-        Kind::AtListsD => false,
-        Kind::AtCounter => false,
-        Kind::AtListed => false,
-        Kind::AtTraded => false,
-        Kind::AtPair => false,
-        Kind::AtHalf => false,
-        Kind::AtProposed => false,
-        Kind::AtMode => true,
+    if is_mode(kind) {
+        return true;
     }
+    number_of(kind) == number_of(Kind::AtInitial)
 }
 
 fn on_mr_e(set: OnMrE) -> Act
     ensures { λ r. ⌜ r ≡ onMrE set ⌝ }
 {
     match set {
-        OnMrE::WithMs => Act::Propose,
-        OnMrE::WithMrD => Act::CounterMrD,
-        OnMrE::WithCrD => Act::SendCrD,
+        OnMrE::Ms => Act::Propose,
+        OnMrE::MrD => Act::CounterMrD,
+        OnMrE::CrD => Act::SendSignal(Signal::CrD),
     }
 }
 
@@ -253,8 +247,8 @@ fn on_mr_d(set: OnMrD) -> Act
     ensures { λ r. ⌜ r ≡ onMrD set ⌝ }
 {
     match set {
-        OnMrD::ByMs => Act::Propose,
-        OnMrD::ByLists => Act::SendCrD,
+        OnMrD::Ms => Act::Propose,
+        OnMrD::CrD => Act::SendSignal(Signal::CrD),
     }
 }
 
@@ -262,8 +256,8 @@ fn on_cr_d(set: OnCrD) -> Act
     ensures { λ r. ⌜ r ≡ onCrD set ⌝ }
 {
     match set {
-        OnCrD::WithCl => Act::SendCl,
-        OnCrD::WithClr => Act::PairClr,
+        OnCrD::Cl => Act::SendCl,
+        OnCrD::Clr => Act::PairClr,
     }
 }
 
@@ -272,69 +266,90 @@ fn on_cr_e(set: OnCrE, display: OnCrD) -> Act
 {
     match set {
         OnCrE::AsOnCrD => on_cr_d(display),
-        OnCrE::ByCrD => Act::SendCrD,
+        OnCrE::CrD => Act::SendSignal(Signal::CrD),
+    }
+}
+
+// A start sends what it names.
+fn start_act(start: Start) -> Act
+    ensures { λ r. ⌜ r ≡ startAct start ⌝ }
+{
+    match start {
+        Start::MrE => Act::SendSignal(Signal::MrE),
+        Start::MrD => Act::SendSignal(Signal::MrD),
+        Start::CrE => Act::SendSignal(Signal::CrE),
+        Start::CrD => Act::SendSignal(Signal::CrD),
+        Start::Ms => Act::Propose,
+        Start::Cl => Act::SendCl,
+        Start::Clr => Act::SendClr,
+    }
+}
+
+// What Initial does on a signal.
+fn signal_act(settings: Settings, signal: Signal) -> Act
+    ensures { λ r. ⌜ r ≡ signalAct settings signal ⌝ }
+{
+    let mr_e = settings.on_mr_e;
+    let cr_e = settings.on_cr_e;
+    let cr_d = settings.on_cr_d;
+    match signal {
+        Signal::MrE => on_mr_e(mr_e),
+        Signal::MrD => Act::Propose,
+        Signal::CrE => on_cr_e(cr_e, cr_d),
+        Signal::CrD => on_cr_d(cr_d),
     }
 }
 
 // What Initial does.
-fn initial_act(set: Settings, heard: Heard) -> Act
-    ensures { λ r. ⌜ r ≡ initialAct set heard ⌝ }
+fn initial_act(settings: Settings, heard: Heard) -> Act
+    ensures { λ r. ⌜ r ≡ initialAct settings heard ⌝ }
 {
-    let mre = set.mre;
-    let cre = set.cre;
-    let crd = set.crd;
     match heard {
-        Heard::StartMrE => Act::SendMrE,
-        Heard::StartMrD => Act::SendMrD,
-        Heard::StartCrE => Act::SendCrE,
-        Heard::StartCrD => Act::SendCrD,
-        Heard::StartMs => Act::Propose,
-        Heard::StartCl => Act::SendCl,
-        Heard::StartClr => Act::SendClr,
-        Heard::HeardMrE => on_mr_e(mre),
-        Heard::HeardMrD => Act::Propose,
-        Heard::HeardCrE => on_cr_e(cre, crd),
-        Heard::HeardCrD => on_cr_d(crd),
-        Heard::GotMs => Act::Judge,
-        Heard::GotCl => Act::Take(After::ThenMs),
-        Heard::GotClr => Act::Take(After::ThenCl),
-        Heard::GotAck1 => Act::NoRow,
-        Heard::GotAck2 => Act::NoRow,
-        Heard::GotNak => Act::NoRow,
+        Heard::Start(start) => start_act(start),
+        Heard::Signal(signal) => signal_act(settings, signal),
+        Heard::Ms => Act::Judge,
+        Heard::Cl => Act::Take(After::ThenMs),
+        Heard::Clr => Act::Take(After::ThenCl),
+        Heard::Ack1 => Act::NoRow,
+        Heard::Ack2 => Act::NoRow,
+        Heard::Nak => Act::NoRow,
         Heard::AnswerTone => Act::NoRow,
         Heard::Spoilt => Act::SendNak1,
     }
 }
 
-// What any other phase but Mode does by its row.
+// What any other phase but Mode does by its row on a signal.
+fn row_signal(row: Row, signal: Signal) -> Act
+    ensures { λ r. ⌜ r ≡ rowSignal row signal ⌝ }
+{
+    let mr_d = row.mr_d;
+    let cr_d = row.cr_d;
+    match signal {
+        Signal::MrE => Act::NoRow,
+        Signal::MrD => mr_d,
+        Signal::CrE => Act::NoRow,
+        Signal::CrD => cr_d,
+    }
+}
+
+// What it does by its row.
 fn row_act(row: Row, heard: Heard) -> Act
     ensures { λ r. ⌜ r ≡ rowAct row heard ⌝ }
 {
-    let mrd = row.mrd;
-    let crd = row.crd;
     let ms = row.ms;
     let cl = row.cl;
     let clr = row.clr;
-    let ack = row.ack;
+    let ack1 = row.ack1;
     let tone = row.tone;
     match heard {
-        Heard::StartMrE => Act::NoRow,
-        Heard::StartMrD => Act::NoRow,
-        Heard::StartCrE => Act::NoRow,
-        Heard::StartCrD => Act::NoRow,
-        Heard::StartMs => Act::NoRow,
-        Heard::StartCl => Act::NoRow,
-        Heard::StartClr => Act::NoRow,
-        Heard::HeardMrE => Act::NoRow,
-        Heard::HeardMrD => mrd,
-        Heard::HeardCrE => Act::NoRow,
-        Heard::HeardCrD => crd,
-        Heard::GotMs => ms,
-        Heard::GotCl => cl,
-        Heard::GotClr => clr,
-        Heard::GotAck1 => ack,
-        Heard::GotAck2 => Act::NoRow,
-        Heard::GotNak => Act::GiveUp,
+        Heard::Start(_) => Act::NoRow,
+        Heard::Signal(signal) => row_signal(row, signal),
+        Heard::Ms => ms,
+        Heard::Cl => cl,
+        Heard::Clr => clr,
+        Heard::Ack1 => ack1,
+        Heard::Ack2 => Act::NoRow,
+        Heard::Nak => Act::GiveUp,
         Heard::AnswerTone => tone,
         Heard::Spoilt => Act::SendNak1,
     }
@@ -347,73 +362,73 @@ fn tone_act(asked: bool) -> Act
     if asked { Act::NoRow } else { Act::Agree }
 }
 
-// A row of which only what MS, CR_d and MR_d do is told.
-fn row_of_ms(mrd: Act, crd: Act) -> Row
-    ensures { λ r. ⌜ r ≡ row mrd crd Act.Judge Act.NoRow Act.NoRow Act.NoRow Act.NoRow ⌝ }
+// A row that judges an MS, and does this on MR_d and on CR_d.
+fn judging_row(mr_d: Act, cr_d: Act) -> Row
+    ensures { λ r. ⌜ r ≡ judgingRow mr_d cr_d ⌝ }
 {
     Row {
-        mrd,
-        crd,
+        mr_d,
+        cr_d,
         ms: Act::Judge,
         cl: Act::NoRow,
         clr: Act::NoRow,
-        ack: Act::NoRow,
+        ack1: Act::NoRow,
         tone: Act::NoRow,
     }
 }
 
-// A row of which only what CR_d, CL and CLR do is told.
-fn row_of_lists(crd: Act, cl: Act, clr: Act) -> Row
-    ensures { λ r. ⌜ r ≡ row Act.NoRow crd Act.NoRow cl clr Act.NoRow Act.NoRow ⌝ }
+// A row that does this on CR_d, and on a CL and a CLR, which it takes.
+fn taking_row(cr_d: Act, cl: Act, clr: Act) -> Row
+    ensures { λ r. ⌜ r ≡ takingRow cr_d cl clr ⌝ }
 {
     Row {
-        mrd: Act::NoRow,
-        crd,
+        mr_d: Act::NoRow,
+        cr_d,
         ms: Act::NoRow,
         cl,
         clr,
-        ack: Act::NoRow,
+        ack1: Act::NoRow,
         tone: Act::NoRow,
     }
 }
 
-// The row of Proposed.
-fn row_of_proposed(asked: bool) -> Row
-    ensures { λ r. ⌜ r ≡ row Act.NoRow Act.NoRow Act.NoRow Act.NoRow Act.NoRow Act.Agree (toneAct asked) ⌝ }
+// A row that agrees on ACK(1), and on the answer tone where ACK was not asked.
+fn agreeing_row(asked: bool) -> Row
+    ensures { λ r. ⌜ r ≡ agreeingRow asked ⌝ }
 {
     Row {
-        mrd: Act::NoRow,
-        crd: Act::NoRow,
+        mr_d: Act::NoRow,
+        cr_d: Act::NoRow,
         ms: Act::NoRow,
         cl: Act::NoRow,
         clr: Act::NoRow,
-        ack: Act::Agree,
+        ack1: Act::Agree,
         tone: tone_act(asked),
     }
 }
 
 // The table: what is done in a phase when something is heard.
-pub fn act_of(kind: Kind, set: Settings, asked: bool, heard: Heard) -> Act
-    ensures { λ r. ⌜ TellsAct kind set asked heard r ⌝ }
+pub fn act_of(kind: Kind, settings: Settings, asked: bool, heard: Heard) -> Act
+    ensures { λ r. ⌜ TellsAct kind settings asked heard r ⌝ }
 {
-    let mrd = set.mrd;
-    let crd = set.crd;
+    let mr_d = settings.on_mr_d;
+    let cr_d = settings.on_cr_d;
     let none = Act::NoRow;
     let ms = Act::Take(After::ThenMs);
     let both = Act::Take(After::ThenClMs);
     let half = Act::Take(After::ThenHalf);
     match kind {
-        Kind::AtInitial => initial_act(set, heard),
-        Kind::AtAskedE => row_act(row_of_ms(on_mr_d(mrd), on_cr_d(crd)), heard),
-        Kind::AtAskedD => row_act(row_of_ms(none, none), heard),
-        Kind::AtListsE => row_act(row_of_lists(on_cr_d(crd), ms, both), heard),
-        Kind::AtListsD => row_act(row_of_lists(none, ms, both), heard),
-        Kind::AtCounter => row_act(row_of_ms(none, on_cr_d(crd)), heard),
-        Kind::AtListed => row_act(row_of_ms(none, none), heard),
-        Kind::AtTraded => row_act(row_of_lists(none, ms, none), heard),
-        Kind::AtPair => row_act(row_of_lists(none, half, none), heard),
-        Kind::AtHalf => row_act(row_of_ms(none, none), heard),
-        Kind::AtProposed => row_act(row_of_proposed(asked), heard),
+        Kind::AtInitial => initial_act(settings, heard),
+        Kind::AtAskedE => row_act(judging_row(on_mr_d(mr_d), on_cr_d(cr_d)), heard),
+        Kind::AtAskedD => row_act(judging_row(none, none), heard),
+        Kind::AtListsE => row_act(taking_row(on_cr_d(cr_d), ms, both), heard),
+        Kind::AtListsD => row_act(taking_row(none, ms, both), heard),
+        Kind::AtCounter => row_act(judging_row(none, on_cr_d(cr_d)), heard),
+        Kind::AtListed => row_act(judging_row(none, none), heard),
+        Kind::AtTraded => row_act(taking_row(none, ms, none), heard),
+        Kind::AtPair => row_act(taking_row(none, half, none), heard),
+        Kind::AtHalf => row_act(judging_row(none, none), heard),
+        Kind::AtProposed => row_act(agreeing_row(asked), heard),
         Kind::AtMode => none,
     }
 }

@@ -10,12 +10,12 @@ use Rattle.station.proofs.step.Tie as tie
 is-reset-requires : tie.Need-is-reset-requires
 is-reset-requires c κs = search needs
 
-answer-requires : tie.Need-answer-requires
-answer-requires c κs = search needs
+silent-requires : tie.Need-silent-requires
+silent-requires c κs = search needs
 
 returns : tie.Need-returns
 unfolding stepOf
-returns c = rw (sym (c .before .before .is-reset .ensures) ∙ c .before .if1 .taken) (did-bare _ _ _ _ _ (c .answer .ensures))
+returns c = rw (sym (c .before .before .is-reset .ensures) ∙ c .before .if1 .taken) (did-bare _ _ _ _ _ (c .silent .ensures))
 
 checked-step-requires : tie.Need-checked-step-requires
 checked-step-requires c κs = search needs
@@ -38,7 +38,7 @@ step-spec =
     tie.close
     (tie.spec
     is-reset-requires
-    answer-requires
+    silent-requires
     returns
     checked-step-requires
     same-length

@@ -1,0 +1,31 @@
+-- `station::sending::send_list` meets its contract.
+-- Assumes nothing.
+use borrow.Author.Needs.{needs}
+use Rattle.station.specs.Sending.{sentList}
+use Rattle.station.proofs.Sendings.{said-one, list-put}
+use Rattle.station.proofs.sending.send_list.Statement.{statement}
+use Rattle.station.proofs.sending.send_list.Tie as tie
+
+list-offer-requires : tie.Need-list-offer-requires
+list-offer-requires c κs = search needs
+
+put-message-requires : tie.Need-put-message-requires
+put-message-requires c κs = search needs
+
+answer-requires : tie.Need-answer-requires
+answer-requires c κs = search needs
+
+same-length : tie.Need-same-length
+same-length c = search needs
+
+returns : tie.Need-returns
+returns c = λ xs h.
+    let b = c .before .before .before in
+    let a = b .before .before .before .before .before .args in
+    let l = list-put (a .kind) (a .settings) (a .own .now) (a .out .now) (b .before .before .list-offer .ensures) (b .put-message .ensures) in
+    said-one (sentList (a .kind) (a .settings) (a .own .now)) xs (a .next) _ _ (c .answer .ensures) (l .0) h (l .1)
+
+pub send-list-spec : {M : Type 1} → statement M
+send-list-spec =
+    tie.close
+    (tie.spec list-offer-requires put-message-requires answer-requires same-length returns)
