@@ -60,15 +60,15 @@ Falls k a = (not (isActed a) || isFewer k a true && isFewer k a false) ≡ true
 
 -- ---- what holds of each entry holds of all
 
-pub of-signal : (P : Act → Type 0) {r : Row} → P NoRow → P (r .«mr_d») → P (r .«cr_d») → (x : Signal) → P (rowSignal r x)
-of-signal P none mr-d cr-d MrE = none
-of-signal P none mr-d cr-d MrD = mr-d
-of-signal P none mr-d cr-d CrE = none
-of-signal P none mr-d cr-d CrD = cr-d
+pub of-signal : (P : Act → Type 0) (r : Row) → P NoRow → P (r .«mr_d») → P (r .«cr_d») → (x : Signal) → P (rowSignal r x)
+of-signal P r none mr-d cr-d MrE = none
+of-signal P r none mr-d cr-d MrD = mr-d
+of-signal P r none mr-d cr-d CrE = none
+of-signal P r none mr-d cr-d CrD = cr-d
 
 of-row : (P : Act → Type 0) {r : Row} → P NoRow → P GiveUp → P SendNak1 → P (r .«mr_d») → P (r .«cr_d») → P (r .ms) → P (r .cl) → P (r .clr) → P (r .ack1) → P (r .tone) → (h : Heard) → P (rowAct r h)
 of-row P none nak bad mr-d cr-d ms cl clr ack tone (heard.Start x) = none
-of-row P none nak bad mr-d cr-d ms cl clr ack tone (heard.Signal x) = of-signal P none mr-d cr-d x
+of-row P {r} none nak bad mr-d cr-d ms cl clr ack tone (heard.Signal x) = of-signal P r none mr-d cr-d x
 of-row P none nak bad mr-d cr-d ms cl clr ack tone heard.Ms = ms
 of-row P none nak bad mr-d cr-d ms cl clr ack tone heard.Cl = cl
 of-row P none nak bad mr-d cr-d ms cl clr ack tone heard.Clr = clr

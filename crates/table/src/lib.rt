@@ -1,5 +1,6 @@
 // The station's phases, what it can hear, how it is set, and its table (RULES, The station): from a phase and what was heard to
 // what is done. Signals and messages have one spelling everywhere: MR_e is MrE, or mr_e in a name of more words.
+ghost use mathlib.Core.Bool.{false};
 ghost use mathlib.Core.Path.{_≡_};
 ghost use Rattle.table.specs.Rows.{onMrE, onMrD, onCrD, onCrE, startAct, signalAct, initialAct, rowSignal, rowAct, toneAct, judgingRow, takingRow, agreeingRow};
 ghost use Rattle.table.specs.Contracts.{TellsCarried, TellsNumber, TellsOver, TellsMode, TellsAct};
@@ -364,7 +365,7 @@ fn tone_act(asked: bool) -> Act
 
 // A row that judges an MS, and does this on MR_d and on CR_d.
 fn judging_row(mr_d: Act, cr_d: Act) -> Row
-    ensures { λ r. ⌜ r ≡ judgingRow mr_d cr_d ⌝ }
+    ensures { λ r. ⌜ r ≡ judgingRow «mr_d» «cr_d» ⌝ }
 {
     Row {
         mr_d,
@@ -379,7 +380,7 @@ fn judging_row(mr_d: Act, cr_d: Act) -> Row
 
 // A row that does this on CR_d, and on a CL and a CLR, which it takes.
 fn taking_row(cr_d: Act, cl: Act, clr: Act) -> Row
-    ensures { λ r. ⌜ r ≡ takingRow cr_d cl clr ⌝ }
+    ensures { λ r. ⌜ r ≡ takingRow «cr_d» cl clr ⌝ }
 {
     Row {
         mr_d: Act::NoRow,
