@@ -65,6 +65,15 @@ const SHORT_V8: u32 = 2;
 
 const ASKS_ACK: u32 = 4;
 
+// ACK(1), and NAK(1) to NAK(3), as they are sent.
+const SENT_ACK_1: u8 = REVISION_2 + ACK_1;
+
+const SENT_NAK_1: u8 = REVISION_2 + NAK_1;
+
+const SENT_NAK_2: u8 = REVISION_2 + NAK_2;
+
+const SENT_NAK_3: u8 = REVISION_2 + NAK_3;
+
 // An act that is due: in which phase, how the station is set, where the standard field of the message heard is, and the time.
 pub(crate) struct Due {
     pub(crate) act: Act,
@@ -159,7 +168,7 @@ fn accept_mode(
 {
     let stored = store_field(field, standard, Keep::All, store);
     if says(field, ASKS_ACK) {
-        return send_octet(REVISION_2 + ACK_1, stored, Phase::Mode(time, 0, true), out);
+        return send_octet(SENT_ACK_1, stored, Phase::Mode(time, 0, true), out);
     }
     answer(
         Told::Done,
@@ -185,8 +194,8 @@ fn judge(
 {
     match judge_mode(wishes, field, standard) {
         Verdict::Accepted => accept_mode(field, standard, time, out, store),
-        Verdict::NotReady => send_octet(REVISION_2 + NAK_2, 0, Phase::Initial(time), out),
-        Verdict::NoFit => send_octet(REVISION_2 + NAK_3, 0, Phase::Initial(time), out),
+        Verdict::NotReady => send_octet(SENT_NAK_2, 0, Phase::Initial(time), out),
+        Verdict::NoFit => send_octet(SENT_NAK_3, 0, Phase::Initial(time), out),
     }
 }
 
@@ -272,7 +281,7 @@ fn perform(
         Act::Judge => judge(wishes, field, standard, time, out, store),
         Act::Agree => agree(phase, time),
         Act::GiveUp => silent(Told::Done, Phase::Initial(time)),
-        Act::SendNak1 => send_octet(REVISION_2 + NAK_1, 0, Phase::Initial(time), out),
+        Act::SendNak1 => send_octet(SENT_NAK_1, 0, Phase::Initial(time), out),
     }
 }
 
@@ -290,11 +299,14 @@ pub(crate) fn sorted_step(
 {
     let phase = call.phase;
     let settings = call.settings;
-    match hear(call.event, field) {
+    let event = call.event;
+    match hear(event, field) {
         Hearing::Thing(heard, standard) => {
             let carried = carried_by(phase);
+            let kind = carried.kind;
+            let act = act_of(kind, settings, carried.ack, heard);
             let due = Due {
-                act: act_of(carried.kind, settings, carried.ack, heard),
+                act,
                 phase,
                 settings,
                 standard,

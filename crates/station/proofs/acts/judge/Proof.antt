@@ -32,17 +32,11 @@ accept-mode-requires c κs = search needs
 enum-told-2 : tie.Need-enum-told-2
 enum-told-2 c = search needs
 
-add-send-octet : tie.Need-add-send-octet
-add-send-octet c = search needs
-
 send-octet-requires : tie.Need-send-octet-requires
 send-octet-requires c κs = search needs
 
 enum-told-3 : tie.Need-enum-told-3
 enum-told-3 c = search needs
-
-add-send-octet-2 : tie.Need-add-send-octet-2
-add-send-octet-2 c = search needs
 
 send-octet-requires-2 : tie.Need-send-octet-requires-2
 send-octet-requires-2 c κs = search needs
@@ -87,10 +81,8 @@ judge-spec =
     enum-told
     accept-mode-requires
     enum-told-2
-    add-send-octet
     send-octet-requires
     enum-told-3
-    add-send-octet-2
     send-octet-requires-2
     same-length
     same-length-2

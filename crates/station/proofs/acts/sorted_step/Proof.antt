@@ -1,6 +1,7 @@
 -- `station::acts::sorted_step` meets its contract: the act is that of the table, and a message that it looks at stands there.
 -- Assumes nothing.
 use borrow.Author.Needs.{needs}
+use mathlib.Core.Path.{_∙_}
 use Rattle.station.proofs.Needing.{needs-standing}
 use Rattle.station.proofs.Saying.{did-bare}
 use Rattle.station.proofs.acts.sorted_step.Statement.{statement}
@@ -12,11 +13,8 @@ hear-requires c κs = search needs
 enum-known-heard : tie.Need-enum-known-heard
 enum-known-heard c = search needs
 
-kind-of-requires : tie.Need-kind-of-requires
-kind-of-requires c κs = search needs
-
-ack-of-requires : tie.Need-ack-of-requires
-ack-of-requires c κs = search needs
+carried-by-requires : tie.Need-carried-by-requires
+carried-by-requires c κs = search needs
 
 act-of-requires : tie.Need-act-of-requires
 act-of-requires c κs = search needs
@@ -24,18 +22,18 @@ act-of-requires c κs = search needs
 perform-requires : tie.Need-perform-requires
 perform-requires c κs =
     let a = c .before .before in
-    let k = a .before .before in
+    let k = a .before in
     let h = k .before .before in
-    let s = h .before .before .before .before .before .before .before .before in
+    let s = h .before .before .before .before .before .before .before .before .before in
     let e = rw (h .heard .given .1) at (h .before .before .hear .ensures) in
-    let n = needs-standing (k .kind-of .result) (s .args .settings) (a .before .ack-of .result) (h .heard .given .0 .0) _ (a .act-of .ensures) (e .1) in
+    let n = needs-standing (k .carried-by .result .kind) (s .args .call .settings) (k .carried-by .result .ack) (h .heard .given .0 .0) _ (a .act-of .ensures) (e .1) in
     (n, s .pre .0, s .pre .1, search needs, search needs)
 
 enum-told : tie.Need-enum-told
 enum-told c = search needs
 
-answer-requires : tie.Need-answer-requires
-answer-requires c κs = search needs
+silent-requires : tie.Need-silent-requires
+silent-requires c κs = search needs
 
 same-length : tie.Need-same-length
 same-length c = search needs
@@ -47,14 +45,14 @@ returns : tie.Need-returns
 returns c =
     let p = c .before .before .before .before in
     let a = p .before .before .before in
-    let h = a .before .before .before .before in
+    let h = a .before .before .before in
     let e = rw (h .heard .given .1) at (h .before .before .hear .ensures) in
-    rw (e .0, ← a .before .before .kind-of .ensures, ← a .before .ack-of .ensures, ← a .act-of .ensures) (p .perform .ensures)
+    rw (e .0, ← a .before .carried-by .ensures, ← a .act-of .ensures) (p .perform .ensures)
 
 returns-2 : tie.Need-returns-2
 returns-2 c =
     let e = rw (c .before .enum-told .given .1) at (c .before .before .before .hear .ensures) in
-    rw e (did-bare _ _ _ _ _ (c .answer .ensures))
+    rw e (did-bare _ _ _ _ _ (c .silent .ensures))
 
 pub sorted-step-spec : {M : Type 1} → statement M
 sorted-step-spec =
@@ -62,12 +60,11 @@ sorted-step-spec =
     (tie.spec
     hear-requires
     enum-known-heard
-    kind-of-requires
-    ack-of-requires
+    carried-by-requires
     act-of-requires
     perform-requires
     enum-told
-    answer-requires
+    silent-requires
     same-length
     same-length-2
     returns

@@ -16,7 +16,7 @@ use Rattle.station.proofs.acts.take_list.Tie as tie
 
 -- what was given, from the place behind the calls that every arm shares
 abbrev start : tie.After-far-offer → tie.Start
-start c = c .before .before .before .before .before .before .before .before .before .before
+start c = c .before .before .before .before .before .before .before .before .before .before .before
 
 -- what an arm says for any octets that were stored is done with the list's
 taken : (c : tie.After-far-offer) {f : List ℕ → Outcome} {out : List ℕ} {r : Stepped}

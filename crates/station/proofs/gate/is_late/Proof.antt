@@ -9,7 +9,7 @@ is-over-requires : tie.Need-is-over-requires
 is-over-requires c κs = search needs
 
 returns : tie.Need-returns
-returns c = search needs
+returns c = rw (sym (c .before .is-over .ensures) ∙ c .if1 .taken)
 
 sub-result : tie.Need-sub-result
 sub-result c = search needs

@@ -15,7 +15,7 @@ silent-requires c κs = search needs
 
 returns : tie.Need-returns
 returns c =
-    let e = c .before .before .before .entry-of .ensures in
+    let e = c .before .before .before .carried-by .ensures in
     rw (time-before _ _ _ _ _ _ _ (rw e at (c .before .if1 .taken))) (did-bare _ _ _ _ _ (c .silent .ensures))
 
 is-late-requires : tie.Need-is-late-requires
@@ -27,9 +27,8 @@ silent-requires-2 c κs = search needs
 returns-2 : tie.Need-returns-2
 returns-2 c =
     let l = c .before .before in
-    let k = l .before .before .kind-of .ensures in
-    let e = l .before .before .before .entry-of .ensures in
-    rw (timed-out _ _ _ _ _ _ _ (rw e at (l .before .if1 .left)) (sym (rw (k, e) at (l .is-late .ensures)) ∙ c .before .if2 .taken))
+    let e = l .before .before .before .carried-by .ensures in
+    rw (timed-out _ _ _ _ _ _ _ (rw e at (l .before .if1 .left)) (sym (rw e at (l .is-late .ensures)) ∙ c .before .if2 .taken))
     (did-bare _ _ _ _ _ (c .silent2 .ensures))
 
 is-mode-requires : tie.Need-is-mode-requires
@@ -42,11 +41,10 @@ returns-3 : tie.Need-returns-3
 returns-3 c =
     let m = c .before .before in
     let l = m .before .before in
-    let k = l .before .before .kind-of .ensures in
-    let e = l .before .before .before .entry-of .ensures in
+    let e = l .before .before .before .carried-by .ensures in
     rw
-    (in-mode _ _ _ _ _ _ _ (rw e at (l .before .if1 .left)) (sym (rw (k, e) at (l .is-late .ensures)) ∙ m .before .if2 .left)
-    (sym (rw k at (m .is-mode .ensures)) ∙ c .before .if3 .taken))
+    (in-mode _ _ _ _ _ _ _ (rw e at (l .before .if1 .left)) (sym (rw e at (l .is-late .ensures)) ∙ m .before .if2 .left)
+    (sym (rw e at (m .is-mode .ensures)) ∙ c .before .if3 .taken))
     (did-bare _ _ _ _ _ (c .silent3 .ensures))
 
 sorted-step-requires : tie.Need-sorted-step-requires
@@ -64,11 +62,10 @@ returns-4 c =
     let i = s .before .before .before in
     let m = i .before in
     let l = m .before .before in
-    let k = l .before .before .kind-of .ensures in
-    let e = l .before .before .before .entry-of .ensures in
+    let e = l .before .before .before .carried-by .ensures in
     rw
-    (in-time _ _ _ _ _ _ _ (rw e at (l .before .if1 .left)) (sym (rw (k, e) at (l .is-late .ensures)) ∙ m .before .if2 .left)
-    (sym (rw k at (m .is-mode .ensures)) ∙ i .if3 .left))
+    (in-time _ _ _ _ _ _ _ (rw e at (l .before .if1 .left)) (sym (rw e at (l .is-late .ensures)) ∙ m .before .if2 .left)
+    (sym (rw e at (m .is-mode .ensures)) ∙ i .if3 .left))
     (s .sorted-step .ensures)
 
 pub timed-step-spec : {M : Type 1} → statement M

@@ -30,12 +30,12 @@ enum-told-4 c = search needs
 
 returns : tie.Need-returns
 returns c =
-    let e = c .event .given in
+    let e = c .before .event .given in
     rw (e .1) (hears-start (e .0 .0) _)
 
 returns-2 : tie.Need-returns-2
 returns-2 c =
-    let e = c .event2 .given in
+    let e = c .before .event2 .given in
     rw (e .1) (hears-signal (e .0 .0) _)
 
 returns-3 : tie.Need-returns-3

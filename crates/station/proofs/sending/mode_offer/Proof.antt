@@ -12,12 +12,12 @@ use Rattle.station.proofs.sending.mode_offer.Tie as tie
 
 -- where all but the last `&&` is known
 offered : (c : tie.Joined2) (eight : Bool) → let a = c .before .before .args in
-    eight ≡ both (c .if2 .if3) (a .far .v8) → _≡_ {A = Offer} (record { v8 = eight; «short_v8» = c .before .if1 .«short_v8»; ack = a .settings .ack }) (modeOffer (a .settings) (a .far))
+    eight ≡ both (c .if2 .if3) (a .far .v8) → _≡_ {A = Offer} (record { v8 = eight; «short_v8» = c .before .if1 .short-v8; ack = a .settings .ack }) (modeOffer (a .settings) (a .far))
 offered c eight =
     let a = c .before .before .args in
     let x = a .settings .«short_v8» in
     let y = a .far .«short_v8» in
-    let short = c .before .if1 .«short_v8» in
+    let short = c .before .if1 .short-v8 in
     let some = c .if2 .if3 in
     mode-offered (a .settings) (a .far) eight short some
     (⊎-elim (λ w. anded short x y (w .0 .taken) (w .1)) (λ w. cut-short short x y (w .0 .left) (w .1)) (c .before .if1 .came))

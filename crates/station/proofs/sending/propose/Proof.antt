@@ -17,12 +17,12 @@ enum-known-found c = search needs
 
 cast-number : tie.Need-cast-number
 cast-number c =
-    let s = c .before .before .before .before .before .before in
+    let s = c .before .before .before .before .before .before .before .before in
     omega (arith, lies-same (s .args .wishes .now) (c .before .before .found .given .1) (s .pre .0) .2)
 
 put-mode-requires : tie.Need-put-mode-requires
 put-mode-requires c κs =
-    let s = c .before .before .before .before .before .before .before in
+    let s = c .before .before .before .before .before .before .before .before .before in
     (lies-same (s .args .wishes .now) (c .before .before .before .found .given .1) (s .pre .0), s .pre .1)
 
 answer-requires : tie.Need-answer-requires
@@ -41,14 +41,14 @@ returns : tie.Need-returns
 returns c = λ xs h.
     let b = c .before .before .before in
     let f = b .before .before .before .before in
-    let a = f .before .before .before .before .args in
+    let a = f .before .before .before .before .before .before .args in
     let p = f .found .given .0 .0 in
     said-same (λ x. proposes (choiceTold x) (a .bid .settings) (a .bid .far) (a .wishes .now) xs (a .bid .time)) (f .found .given .1)
     (said-one (sentMode (a .bid .settings) (a .bid .far) (a .wishes .now) p) xs (Proposed (a .bid .time) (p .number) (a .bid .settings .ack)) _ _ (c .answer .ensures) (b .put-mode .ensures .0) h (b .put-mode .ensures .1))
 
 returns-2 : tie.Need-returns-2
 returns-2 c = λ xs h.
-    let a = c .before .before .before .before .before .args in
+    let a = c .before .before .before .before .before .before .before .args in
     said-same (λ x. proposes (choiceTold x) (a .bid .settings) (a .bid .far) (a .wishes .now) xs (a .bid .time)) (c .before .enum-told .given .1)
     (said-none (proposes (choiceTold NoChoice) (a .bid .settings) (a .bid .far) (a .wishes .now) xs (a .bid .time)) _ (c .answer2 .ensures) refl refl h)
 

@@ -15,18 +15,18 @@ use Rattle.station.proofs.sending.propose_behind.Statement.{statement}
 use Rattle.station.proofs.sending.propose_behind.Tie as tie
 
 -- the CL is put, and it is short
-list-sent : (c : tie.After-put-message) → let a = c .before .before .before .before .before .before .before .before .before .before .args in let l = sentList 2 (a .bid .settings) (a .own .now) in
+list-sent : (c : tie.After-put-message) → let a = c .before .before .before .before .before .before .before .before .before .before .before .before .args in let l = sentList 2 (a .bid .settings) (a .own .now) in
     (c .put-message .result ≡ length l) × (c .put-message .last .1 .1 .1 .0 ≡ put l (a .out .now)) × (length l ≤ 31)
 list-sent c =
-    let s = c .before .before .before .before .before .before .before .before .before .before in
+    let s = c .before .before .before .before .before .before .before .before .before .before .before .before in
     let a = s .args in
     let l = list-put 2 (a .bid .settings) (a .own .now) (a .out .now) (c .before .before .list-offer .ensures) (c .put-message .ensures) in
-    (l .0, l .1, list-short 2 (a .bid .settings) (a .own .now) (omega arith) (λ i k. c .before .before .before .before .before .before .before .before .before .shared-slice-known .given i .fits) (s .pre .1))
+    (l .0, l .1, list-short 2 (a .bid .settings) (a .own .now) (omega arith) (λ i k. c .before .before .before .before .before .before .before .before .before .before .before .shared-slice-known .given i .fits) (s .pre .1))
 
 -- behind it there is room for the MS
 room : (c : tie.After-put-message) → let o = c .put-message .last .1 .1 .1 .0 in let n = c .put-message .result in (n ≤ length o) × (64 ≤ length (take (length o - n) (drop n o)))
 room c =
-    let s = c .before .before .before .before .before .before .before .before .before .before in
+    let s = c .before .before .before .before .before .before .before .before .before .before .before .before in
     let l = list-sent c in
     second-room _ (s .args .out .now) _ _ (l .2) (s .pre .2) (l .0) (l .1)
 
@@ -35,7 +35,7 @@ enum-known-found c = search needs
 
 cast-number : tie.Need-cast-number
 cast-number c =
-    let s = c .before .before .before .before .before .before .before in
+    let s = c .before .before .before .before .before .before .before .before .before in
     omega (arith, lies-same (s .args .wishes .now) (c .before .before .found .given .1) (s .pre .0) .2)
 
 list-offer-requires : tie.Need-list-offer-requires
@@ -57,7 +57,7 @@ put-mode-requires : tie.Need-put-mode-requires
 put-mode-requires c κs =
     let one = c .before .before .before in
     let f = one .before .before .before .before .before in
-    let s = f .before .before .before .before .before in
+    let s = f .before .before .before .before .before .before .before in
     (lies-same (s .args .wishes .now) (f .found .given .1) (s .pre .0), room one .1)
 
 answer-requires : tie.Need-answer-requires
@@ -77,20 +77,20 @@ returns c = λ xs h.
     let two = c .before .before .before in
     let one = two .before .before .before .before in
     let f = one .before .before .before .before .before in
-    let s = f .before .before .before .before .before in
+    let s = f .before .before .before .before .before .before .before in
     let a = s .args in
     let p = f .found .given .0 .0 in
     let l = list-sent one in
     let cl = sentList 2 (a .bid .settings) (a .own .now) in
     let ms = sentMode (a .bid .settings) (a .bid .far) (a .wishes .now) p in
-    let m = mode-short (a .bid .settings) (a .bid .far) (a .wishes .now) p (λ i k. f .before .before .before .shared-slice-known2 .given i .fits) (lies-same (a .wishes .now) (f .found .given .1) (s .pre .0)) in
+    let m = mode-short (a .bid .settings) (a .bid .far) (a .wishes .now) p (λ i k. f .before .before .before .before .before .shared-slice-known2 .given i .fits) (lies-same (a .wishes .now) (f .found .given .1) (s .pre .0)) in
     said-same (λ x. proposesBehind cl (choiceTold x) (a .bid .settings) (a .bid .far) (a .wishes .now) xs (a .bid .time)) (f .found .given .1)
     (said (proposesBehind cl (choiceTold (Chosen p)) (a .bid .settings) (a .bid .far) (a .wishes .now) xs (a .bid .time)) _ _ _ (c .answer .ensures) (l .0) (two .put-mode .ensures .0) h
     (laid-second cl ms (a .out .now) _ _ _ (omega (arith, l .2, m, s .pre .2)) (l .0) (l .1) (two .put-mode .ensures .1)))
 
 returns-2 : tie.Need-returns-2
 returns-2 c = λ xs h.
-    let a = c .before .before .before .before .before .before .args in
+    let a = c .before .before .before .before .before .before .before .before .args in
     let cl = sentList 2 (a .bid .settings) (a .own .now) in
     said-same (λ x. proposesBehind cl (choiceTold x) (a .bid .settings) (a .bid .far) (a .wishes .now) xs (a .bid .time)) (c .before .enum-told .given .1)
     (said-none (proposesBehind cl (choiceTold NoChoice) (a .bid .settings) (a .bid .far) (a .wishes .now) xs (a .bid .time)) _ (c .answer2 .ensures) refl refl h)
