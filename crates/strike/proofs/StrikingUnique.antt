@@ -43,11 +43,11 @@ strike-unique l out₀ r r′ out₁ out₁′ p q =
 
 -- a refusal writes nothing
 pub strike-refusal-writes-nothing : (l out₀ : List ℕ) (r : Struck) (out₁ : List ℕ) → Strikes l out₀ r out₁ → (struckTold r .no ≡ 0 → ⊥) → out₁ ≡ out₀
-strike-refusal-writes-nothing l out₀ r out₁ s no = go (strikeMessage l (length out₀)) (s .reply) (s .output)
+strike-refusal-writes-nothing l out₀ r out₁ s h = go (strikeMessage l (length out₀)) (s .reply) (s .output)
   where
     go : (x : Writing) → struckTold r ≡ writeReply x → out₁ ≡ writeLeaves x out₀ → out₁ ≡ out₀
     go (refused k) t e = e
-    go (sent os) t e = absurd (no (ap (λ (y : Reply). y .no) t))
+    go (sent os) t e = absurd (h (ap (λ (y : Reply). y .no) t))
 
 -- ---- rewriting a field
 

@@ -41,5 +41,5 @@ write-unique x out₀ r r′ out₁ out₁′ p q =
 
 -- a refusal writes nothing
 pub write-refusal-writes-nothing : (x : Writing) (out₀ : List ℕ) (r : MessageWritten) (out₁ : List ℕ) → Writes x out₀ r out₁ → (writeTold r .no ≡ 0 → ⊥) → out₁ ≡ out₀
-write-refusal-writes-nothing (refused k) out₀ r out₁ w no = w .output
-write-refusal-writes-nothing (sent os) out₀ r out₁ w no = absurd (no (ap (λ (t : Reply). t .no) (w .reply)))
+write-refusal-writes-nothing (refused k) out₀ r out₁ w h = w .output
+write-refusal-writes-nothing (sent os) out₀ r out₁ w h = absurd (h (ap (λ (t : Reply). t .no) (w .reply)))
