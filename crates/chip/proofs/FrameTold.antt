@@ -10,7 +10,7 @@ use lib.Dec.{ltb}
 use lib.ListN.{length}
 use Rattle.frame.specs.Limits.{mostInformation, mostBits, frameRoom, fewestOpening, mostOpening, fewestClosing, mostClosing}
 use Rattle.frame.specs.Reader.{Reading, refused, information, readFrame, Reply, readTold, readReply, Reads}
-use Rattle.frame.specs.Writer.{Writing, declinedIf, writeFrame, writeTold, writeReply, Writes}
+use Rattle.frame.specs.Writer.{Writing, refusedIf, writeFrame, writeTold, writeReply, Writes}
 use Rattle.frame.specs.declared.FrameRead.{FrameRead}
 use Rattle.frame.specs.declared.FrameWritten.{FrameWritten}
 use Rattle.exact.proofs.Exact.{accepted-is-frame}
@@ -35,8 +35,8 @@ module _ (run : List ℕ) (count : ℕ) {out₀ : List ℕ} {r : FrameRead} {out
 
 -- ---- the writer
 
--- a test that declines sends nothing
-few-if : (t : Bool) (k : ℕ) (x : Writing) → (t ≡ false → writeReply x .count ≤ mostBits) → writeReply (declinedIf t k x) .count ≤ mostBits
+-- a test that refuses sends nothing
+few-if : (t : Bool) (k : ℕ) (x : Writing) → (t ≡ false → writeReply x .count ≤ mostBits) → writeReply (refusedIf t k x) .count ≤ mostBits
 few-if true k x h = omega arith
 few-if false k x h = h refl
 

@@ -9,7 +9,7 @@ use Rattle.tree.specs.Form.{blockForm, subsForm, groupForm, parsForm, restForm,
 use Rattle.tree.specs.Fields.{codesIn, isIn, allIn, hasSpar}
 use Rattle.tree.specs.declared.Field.the-variants.{Standard}
 use Rattle.meaning.specs.Minimal.{fullAtEnd, tight, subsMinimal, groupMinimal, parsMinimal, fieldMinimal}
-use Rattle.names.specs.Named.{rowsUnder, rowAt, rowOf}
+use Rattle.names.specs.Named.{printedUnder, printedAt, printedOf}
 use Rattle.good.specs.Good.{allStandard, goodField}
 use Rattle.choice.specs.Wishes.{wishesIn, wishesOf, standardCodes, goodRecords}
 use Rattle.choice.specs.Tables.{allInside, tablesNo}
@@ -71,13 +71,13 @@ pub record Positions : Type 0 where
   pub not-far : choice (standardCodes wide) (farCodes nothing 0) readyWish ≡ refused 11
   pub unlisted : choice [] unheard readyWish ≡ chosen (one 1 2)
   -- MS 21 80 80 80 81 02 D8 is NAK(3), and 21 89 80 80 81 02 D0 is accepted; to a wish not ready NAK(2)
-  pub declined : judged (0x21 ∷ 0x80 ∷ 0x80 ∷ 0x80 ∷ 0x81 ∷ 0x02 ∷ 0xd8 ∷ []) readyWish ≡ 3
+  pub no-fit : judged (0x21 ∷ 0x80 ∷ 0x80 ∷ 0x80 ∷ 0x81 ∷ 0x02 ∷ 0xd8 ∷ []) readyWish ≡ 3
   pub accepted : judged (0x21 ∷ 0x89 ∷ 0x80 ∷ 0x80 ∷ 0x81 ∷ 0x02 ∷ 0xd0 ∷ []) readyWish ≡ 0
   pub not-ready : judged (0x21 ∷ 0x89 ∷ 0x80 ∷ 0x80 ∷ 0x81 ∷ 0x02 ∷ 0xd0 ∷ []) otherWish ≡ 2
   pub empty : judged (0x21 ∷ 0x89 ∷ 0x80 ∷ 0x80 ∷ 0x80 ∷ []) readyWish ≡ 3
 
 pub positions : Positions
-unfolding setBits blockNumbers blockEnd subCodes subsBehind groupCodes groupBehind parCodes parsBehind restCodes restBehind fieldCodes fieldBehind blockForm subsForm groupForm parsForm restForm fieldForm codesIn isIn allIn hasSpar fullAtEnd tight subsMinimal groupMinimal parsMinimal fieldMinimal rowsUnder rowAt rowOf allStandard goodField wishesIn goodRecords allInside tablesNo firstSuiting choice fitsSome fitsReady verdict
+unfolding setBits blockNumbers blockEnd subCodes subsBehind groupCodes groupBehind parCodes parsBehind restCodes restBehind fieldCodes fieldBehind blockForm subsForm groupForm parsForm restForm fieldForm codesIn isIn allIn hasSpar fullAtEnd tight subsMinimal groupMinimal parsMinimal fieldMinimal printedUnder printedAt printedOf allStandard goodField wishesIn goodRecords allInside tablesNo firstSuiting choice fitsSome fitsReady verdict
 positions =
     record {
       good = refl;
@@ -96,7 +96,7 @@ positions =
       not-own = refl;
       not-far = refl;
       unlisted = refl;
-      declined = refl;
+      no-fit = refl;
       accepted = refl;
       not-ready = refl;
       empty = refl;

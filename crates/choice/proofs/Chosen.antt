@@ -64,7 +64,7 @@ module _ (own : List ℕ) (far : Far) (run : List ℕ) (p : Pick) (k at : ℕ) (
         record {
           before = before;
           wish = wishAt run x;
-          behind = wishesIn k (drop (x .end) run);
+          rest = wishesIn k (drop (x .end) run);
           wishes = a .wishes ∙ rw (e .0 k);
           none = a .none;
           suited = s;

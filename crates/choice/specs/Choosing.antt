@@ -58,8 +58,8 @@ farCodes octets at = heard (codesIn Standard octets at)
 pub record First (own : List ℕ) (far : Far) (run : List ℕ) (p : Pick) : Type 0 where
   pub before : List Wish
   pub wish : Wish
-  pub behind : List Wish
-  pub wishes : wishesOf run ≡ before ++ (wish ∷ behind)
+  pub rest : List Wish
+  pub wishes : wishesOf run ≡ before ++ (wish ∷ rest)
   pub none : (w : Wish) → List·Memᴰ w before → suits own far w ≡ false
   pub suited : suits own far wish ≡ true
   pub number : p .number ≡ length before + 1

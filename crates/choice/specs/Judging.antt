@@ -25,7 +25,7 @@ unfoldable pub fitsReady : List ℕ → List Wish → Bool
 fitsReady mode [] = false
 fitsReady mode (w ∷ ws) = pick (both (w .ready) (fits mode w)) true (fitsReady mode ws)
 
--- the NAK that the mode is declined with, 0 where it is accepted
+-- the NAK that the mode is refused with, 0 where it is accepted
 unfoldable pub verdict : List ℕ → List Wish → ℕ
 verdict mode ws = pick (fitsReady mode ws) 0 (pick (fitsSome mode ws) 2 3)
 

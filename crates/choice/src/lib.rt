@@ -48,14 +48,14 @@ pub enum Verdict {
 }
 
 // A record of the wishes: whether it is ready, and from where to where its standard field lies.
-pub struct Slot {
-    pub ready: bool,
-    pub start: usize,
-    pub end: usize,
+struct Slot {
+    ready: bool,
+    start: usize,
+    end: usize,
 }
 
 // What stands at a place of the wishes' run: a record, or none that is whole.
-pub enum Entry {
+enum Entry {
     Record(Slot),
     Over,
 }

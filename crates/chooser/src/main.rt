@@ -124,7 +124,7 @@ fn made_up(no: u8, span: &[u8]) -> MessageRead {
     let at = number_in(first(span, NUMBER_SIZE)) as usize;
     let length = number_in(behind(span, NUMBER_SIZE)) as usize;
     match no {
-        1 => MessageRead::SmallList,
+        1 => MessageRead::BadLent,
         2 => MessageRead::BadSize,
         3 => MessageRead::UnknownType,
         4 => MessageRead::Malformed,
@@ -149,7 +149,7 @@ fn answer_read(operation: u8, own: &[u8], far: &[u8], place: u8) -> MessageRead 
 fn answer_of_reading(read: MessageRead) -> Answer {
     match read {
         MessageRead::Read(_) => number_only(0),
-        MessageRead::SmallList => number_only(1),
+        MessageRead::BadLent => number_only(1),
         MessageRead::BadSize => number_only(2),
         MessageRead::UnknownType => number_only(3),
         MessageRead::Malformed => number_only(4),

@@ -38,7 +38,7 @@ demand-three =
             struck-ns m 448 o e,
             struck-is-no-longer m 448 o e,
           );
-      unnamed-declined = λ p g s j x i n. unnamed-nak-3 p g s j x i n;
+      unnamed-refused = λ p g s j x i n. unnamed-nak-3 p g s j x i n;
       revision-read = λ o o′ l room q. (same-reading o o′ q l room, same-codes o o′ q l, same-ns o o′ q l .0, same-ns o o′ q l .1);
       revision-struck = λ o o′ l q e. revisions-struck o o′ l q e;
       revision-answered = λ p set own run o o′ l time outSize storeSize q. revisions-answered o o′ l q p set own run time outSize storeSize;

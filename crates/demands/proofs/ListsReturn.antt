@@ -63,11 +63,11 @@ module _ (kind revision : ℕ) (list ns : List ℕ) (room : ℕ) (os : List ℕ)
 
 -- ---- no refusal of a writer has the number of success
 
-frame-if : (t : Bool) (k : ℕ) (x : frameWriter.Writing) → (x ≡ frameWriter.declined 0 → ⊥) → frameWriter.declinedIf t (suc k) x ≡ frameWriter.declined 0 → ⊥
+frame-if : (t : Bool) (k : ℕ) (x : frameWriter.Writing) → (x ≡ frameWriter.refused 0 → ⊥) → frameWriter.refusedIf t (suc k) x ≡ frameWriter.refused 0 → ⊥
 frame-if true k x h e = let z : suc k ≡ 0 = cc in omega arith
 frame-if false k x h e = h e
 
-pub frame-never-zero : (info : List ℕ) (opening closing room : ℕ) → writeFrame info opening closing room ≡ frameWriter.declined 0 → ⊥
+pub frame-never-zero : (info : List ℕ) (opening closing room : ℕ) → writeFrame info opening closing room ≡ frameWriter.refused 0 → ⊥
 unfolding writeFrame
 frame-never-zero info opening closing room =
     frame-if (ltb room frameRoom) 0 _
@@ -78,11 +78,11 @@ frame-never-zero info opening closing room =
     (frame-if (ltb closing fewestClosing) 7 _
     (frame-if (ltb mostClosing closing) 7 _ (λ e. let z : _≡_ {A = ℕ} 0 1 = cc in omega arith)))))))
 
-message-if : (t : Bool) (k : ℕ) (x : writing.Writing) → (x ≡ writing.declined 0 → ⊥) → writing.declinedIf t (suc k) x ≡ writing.declined 0 → ⊥
+message-if : (t : Bool) (k : ℕ) (x : writing.Writing) → (x ≡ writing.refused 0 → ⊥) → writing.refusedIf t (suc k) x ≡ writing.refused 0 → ⊥
 message-if true k x h e = let z : suc k ≡ 0 = cc in omega arith
 message-if false k x h e = h e
 
-pub message-never-zero : (kind revision : ℕ) (list ns : List ℕ) (room : ℕ) → writeMessage kind revision list ns room ≡ writing.declined 0 → ⊥
+pub message-never-zero : (kind revision : ℕ) (list ns : List ℕ) (room : ℕ) → writeMessage kind revision list ns room ≡ writing.refused 0 → ⊥
 unfolding writeMessage listWriting checkedWriting
 message-never-zero kind revision list ns room =
     message-if (ltb room 64) 0 _
@@ -103,19 +103,19 @@ unfolding put
 front-put xs d n e = rw e (take-append-seam xs (drop (length xs) d))
 
 -- where a message was written, its octets are the part that the reply tells
-pub message-left : (x : writing.Writing) (out₀ : List ℕ) (r : MessageWritten) (out₁ : List ℕ) → (x ≡ writing.declined 0 → ⊥) → messageWriter.Writes x out₀ r out₁
+pub message-left : (x : writing.Writing) (out₀ : List ℕ) (r : MessageWritten) (out₁ : List ℕ) → (x ≡ writing.refused 0 → ⊥) → messageWriter.Writes x out₀ r out₁
     → messageWriter.writeTold r .no ≡ 0
     → (os : List ℕ) × (x ≡ writing.sent os) × (messageWriter.writeTold r .count ≡ length os) × (take (messageWriter.writeTold r .count) out₁ ≡ os)
-message-left (writing.declined k) out₀ r out₁ n a h = absurd (n (ap writing.declined (sym (ap (λ (y : writing.Reply). y .no) (a .reply)) ∙ h)))
+message-left (writing.refused k) out₀ r out₁ n a h = absurd (n (ap writing.refused (sym (ap (λ (y : writing.Reply). y .no) (a .reply)) ∙ h)))
 message-left (writing.sent os) out₀ r out₁ n a h =
     let e = ap (λ (y : writing.Reply). y .count) (a .reply) in
     (os, refl, e, rw (a .output) (front-put os out₀ (messageWriter.writeTold r .count) e))
 
 -- where a frame was written, the reader given the output and the bit count told looks at that frame
-pub frame-left : (x : frameWriter.Writing) (out₀ : List ℕ) (r : FrameWritten) (out₁ : List ℕ) → (x ≡ frameWriter.declined 0 → ⊥) → frameWriter.Writes x out₀ r out₁
+pub frame-left : (x : frameWriter.Writing) (out₀ : List ℕ) (r : FrameWritten) (out₁ : List ℕ) → (x ≡ frameWriter.refused 0 → ⊥) → frameWriter.Writes x out₀ r out₁
     → frameWriter.writeTold r .no ≡ 0
     → (bs : List Bool) × (x ≡ frameWriter.sent bs) × ((room : ℕ) → readFrame out₁ (frameWriter.writeTold r .count) room ≡ readFrame (put (packed bs) out₀) (length bs) room)
-frame-left (frameWriter.declined k) out₀ r out₁ n a h = absurd (n (ap frameWriter.declined (sym (ap (λ (y : frameReader.Reply). y .no) (a .reply)) ∙ h)))
+frame-left (frameWriter.refused k) out₀ r out₁ n a h = absurd (n (ap frameWriter.refused (sym (ap (λ (y : frameReader.Reply). y .no) (a .reply)) ∙ h)))
 frame-left (frameWriter.sent bs) out₀ r out₁ n a h =
     (bs, refl, λ room. rw (a .output, ap (λ (y : frameReader.Reply). y .count) (a .reply)))
 

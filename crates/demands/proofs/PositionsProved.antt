@@ -23,5 +23,5 @@ positions-proved =
       unknown = positions .unknown;
       nineteen = ff-ff;
       proposed = station.bench .proposed;
-      declined = station.bench .refused;
+      mode-refused = station.bench .refused;
     }

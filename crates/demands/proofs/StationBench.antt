@@ -14,7 +14,7 @@ use Rattle.meaning.specs.Minimal.{fullAtEnd, tight, subsMinimal, groupMinimal, 
 use Rattle.meaning.specs.Writing.{messageOctets}
 use Rattle.meaning.specs.Written.{blockFrom, run, from, positions, marked, subsWritten, lowerWritten, parWritten, parsWritten, restWritten, written}
 use Rattle.names.specs.Masks.{only}
-use Rattle.names.specs.Named.{rowsUnder, rowAt, rowOf}
+use Rattle.names.specs.Named.{printedUnder, printedAt, printedOf}
 use Rattle.good.specs.Good.{allStandard, goodField}
 use Rattle.strike.specs.Rewriting.{kept}
 use Rattle.choice.specs.Choosing.{firstSuiting, choice}
@@ -57,5 +57,5 @@ pub record Positions : Type 0 where
   pub refused : hears (AskedD 0) (0x21 ∷ 0x80 ∷ 0x80 ∷ 0x80 ∷ 0x81 ∷ 0x02 ∷ 0xd8 ∷ []) 20 ≡ sends (0x2a ∷ []) [] [] (Initial 20)
 
 pub bench : Positions
-unfolding setBits blockNumbers blockEnd subCodes subsBehind groupCodes groupBehind parCodes parsBehind restCodes restBehind fieldCodes fieldBehind blockForm subsForm groupForm parsForm restForm fieldForm codesIn isIn allIn hasSpar nsForm tailForm messageForm messageCodes readMessage fullAtEnd tight subsMinimal groupMinimal parsMinimal fieldMinimal messageOctets blockFrom run from positions marked subsWritten lowerWritten parWritten parsWritten restWritten written only rowsUnder rowAt rowOf allStandard goodField kept firstSuiting choice fitsSome fitsReady verdict allInside wishesIn goodRecords offerCodes sentField sentMode farList farOffer asksAck storedList storedMode timed checked stepOf
+unfolding setBits blockNumbers blockEnd subCodes subsBehind groupCodes groupBehind parCodes parsBehind restCodes restBehind fieldCodes fieldBehind blockForm subsForm groupForm parsForm restForm fieldForm codesIn isIn allIn hasSpar nsForm tailForm messageForm messageCodes readMessage fullAtEnd tight subsMinimal groupMinimal parsMinimal fieldMinimal messageOctets blockFrom run from positions marked subsWritten lowerWritten parWritten parsWritten restWritten written only printedUnder printedAt printedOf allStandard goodField kept firstSuiting choice fitsSome fitsReady verdict allInside wishesIn goodRecords offerCodes sentField sentMode farList farOffer asksAck storedList storedMode timed checked stepOf
 bench = record { proposed = refl; in-time = refl; late = refl; acknowledged = refl; refused = refl }

@@ -21,9 +21,9 @@ use Rattle.message.specs.Reader.{listRoom, standardAt, messageForm, messageCode
 use Rattle.message.proofs.Accepted.{accepted-passed, never-zero}
 use Rattle.message.proofs.Room.{codes-in}
 use Rattle.meaning.specs.Written.{run, from}
-use Rattle.meaning.specs.Writing.{declinedIf, Reply, writeReply, writeLeaves}
+use Rattle.meaning.specs.Writing.{refusedIf, Reply, writeReply, writeLeaves}
 use Rattle.meaning.proofs.Meanings.{meaning-join}
-use Rattle.names.specs.Named.{rowsUnder, rowAt, rowOf, namedCode, keeps}
+use Rattle.names.specs.Named.{printedUnder, printedAt, printedOf, namedCode, keeps}
 use Rattle.names.specs.Masks.{only}
 use Rattle.names.specs.declared.Keep.{Keep}
 use Rattle.names.specs.declared.Keep.the-variants.{All, Named}
@@ -114,7 +114,7 @@ named-said x l n = in-only namedCode x l ∙ rw n
 
 -- what the station asks an identification field for is named
 offers-named : (namedCode (codeOf 1 0 0 1) ≡ true) × (namedCode (codeOf 1 0 0 2) ≡ true) × (namedCode (codeOf 1 0 0 4) ≡ true)
-unfolding rowsUnder rowAt rowOf
+unfolding printedUnder printedAt printedOf
 offers-named = (refl, refl, refl)
 
 module _ {m m′ : List ℕ} (a : Alike m m′) where
@@ -249,8 +249,8 @@ pub strikes-told : (m out₀ : List ℕ) (r : Struck) (out₁ : List ℕ) → St
 unfolding strikeMessage
 strikes-told m out₀ r out₁ s z = go (ltb (length out₀) mostOctets) (readMessage m listRoom) (never-zero m listRoom) (s .reply) (s .output)
   where
-    go : (t : Bool) (x : Reading) → (x ≡ refused 0 → ⊥) → struckTold r ≡ writeReply (declinedIf t 1 (unlessRefused x (struckForm m)))
-        → out₁ ≡ writeLeaves (declinedIf t 1 (unlessRefused x (struckForm m))) out₀
+    go : (t : Bool) (x : Reading) → (x ≡ refused 0 → ⊥) → struckTold r ≡ writeReply (refusedIf t 1 (unlessRefused x (struckForm m)))
+        → out₁ ≡ writeLeaves (refusedIf t 1 (unlessRefused x (struckForm m))) out₀
         → (x ≡ accepted) × (struckTold r .count ≡ length (struckForm m)) × (out₁ ≡ put (struckForm m) out₀)
     go true x n p q = absurd (omega (arith, ap (λ (y : Reply). y .no) p))
     go false (refused k) n p q = absurd (n (ap refused (sym (ap (λ (y : Reply). y .no) p) ∙ z)))

@@ -27,7 +27,7 @@ use Rattle.exact.proofs.WriterUnique as frameWriting
 use Rattle.tree.specs.Fields.{mostOctets}
 use Rattle.message.specs.Reader.{listRoom, nsPlace, nsSize, nsOf, hasNs, tailAt, readMessage, Reads}
 use Rattle.message.specs.declared.MessageRead.{MessageRead}
-use Rattle.message.specs.declared.MessageRead.the-variants.{Read, SmallList}
+use Rattle.message.specs.declared.MessageRead.the-variants.{Read, BadLent}
 use Rattle.message.proofs.Unique.{read-unique}
 use Rattle.meaning.specs.Writing.{writeMessage}
 use Rattle.meaning.specs.Writing as writing
@@ -63,7 +63,7 @@ module _ (kind revision : ℕ) (list ns : List ℕ) (room : ℕ) (os : List ℕ)
       record { reply = rw (t .0, size, t .1, t .2, t .3); list = rw (t .0, t .3) }
 
 -- with too small a list it reads nothing
-none-read : (os back : List ℕ) → length back < listRoom → Reads os back SmallList back
+none-read : (os back : List ℕ) → length back < listRoom → Reads os back BadLent back
 unfolding readMessage put
 none-read os back h = record { reply = rw (lt-ltb (length back) listRoom h); list = rw (lt-ltb (length back) listRoom h) }
 
@@ -179,9 +179,9 @@ returns-unique kind revision list ns flags back₀ r r′ back₁ back₁′ a b
 
     framing : (os : List ℕ) → writeMessage kind revision list ns mostOctets ≡ writing.sent os → (x : frameWriter.Writing) → writeFrame os (flags .opening) (flags .closing) frameRoom ≡ x
         → (r ≡ r′) × (back₁ ≡ back₁′)
-    framing os w (frameWriter.declined k) f = one (a .unframed os k w f) (b .unframed os k w f)
+    framing os w (frameWriter.refused k) f = one (a .unframed os k w f) (b .unframed os k w f)
     framing os w (frameWriter.sent bs) f = lent os bs w f (decLt (length back₀) listRoom)
 
     message : (x : writing.Writing) → writeMessage kind revision list ns mostOctets ≡ x → (r ≡ r′) × (back₁ ≡ back₁′)
-    message (writing.declined k) w = one (a .unwritten k w) (b .unwritten k w)
+    message (writing.refused k) w = one (a .unwritten k w) (b .unwritten k w)
     message (writing.sent os) w = framing os w (writeFrame os (flags .opening) (flags .closing) frameRoom) refl

@@ -1,5 +1,5 @@
 -- To be believed: demand 3. A newer board can't confuse an older one: a message and its struck form give the same answer, octets, store
--- and next state; a mode with an unnamed parameter is declined; and the revision of a message decides nothing.
+-- and next state; a mode with an unnamed parameter is refused; and the revision of a message decides nothing.
 -- Assumes nothing.
 use Prim.Native.Nat.{ℕ, _≤_}
 use mathlib.Core.Bool.{true, false}
@@ -65,9 +65,9 @@ pub record DemandThree : Type 0 where
       × (revisionOf (struckForm m) ≡ revisionOf m)
       × (nsOf (struckForm m) ≡ nsOf m)
       × (length (struckForm m) ≤ length m)
-  -- Where an MS is due and nothing earlier is refused, one whose standard field has an unnamed parameter is declined with NAK(3): nothing is
+  -- Where an MS is due and nothing earlier is refused, one whose standard field has an unnamed parameter is refused with NAK(3): nothing is
   -- stored, and the phase is Initial.
-  pub unnamed-declined : (p : Phase) (g : Given) → Passes p g heard.Ms → actOn p g heard.Ms ≡ Judge → (x : ℕ) → isIn x (standardHeard g) ≡ true → namedCode x ≡ false
+  pub unnamed-refused : (p : Phase) (g : Given) → Passes p g heard.Ms → actOn p g heard.Ms ≡ Judge → (x : ℕ) → isIn x (standardHeard g) ≡ true → namedCode x ≡ false
       → steps p g ≡ sends (0x2a ∷ []) [] [] (Initial (g .time))
   -- Revision decides nothing but the revision reported. Two messages that differ in it alone, so octet 1 is o or o′ and the type is the same,
   -- are read alike: the same answer, the same codes, the same place and length of NS.

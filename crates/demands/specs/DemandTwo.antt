@@ -120,9 +120,9 @@ pub record DemandTwo : Type 0 where
   -- a mode is accepted exactly if it has an SPar(1) and lies in a ready wish
   pub accepted-ready : (mode : List ℕ) (ws : List Wish) → (verdict mode ws ≡ 0) ↔ ((f : Fitting mode ws) × (f .wish .ready ≡ true))
   -- NAK(2) exactly if it lies in a wish, and in none that is ready
-  pub declined-unready : (mode : List ℕ) (ws : List Wish) → (verdict mode ws ≡ 2) ↔ (Fitting mode ws × ((f : Fitting mode ws) → f .wish .ready ≡ false))
+  pub refused-unready : (mode : List ℕ) (ws : List Wish) → (verdict mode ws ≡ 2) ↔ (Fitting mode ws × ((f : Fitting mode ws) → f .wish .ready ≡ false))
   -- NAK(3) exactly if it lies in no wish
-  pub declined-unfit : (mode : List ℕ) (ws : List Wish) → (verdict mode ws ≡ 3) ↔ (Fitting mode ws → ⊥)
+  pub refused-unfit : (mode : List ℕ) (ws : List Wish) → (verdict mode ws ≡ 3) ↔ (Fitting mode ws → ⊥)
   -- The station begins in Initial
   pub begins : (time : ℕ) (state : State) → TellsBegun time state → state .phase ≡ Initial time
   -- Refusals first, in their order: a reset gives Initial from any state, with no check at all

@@ -20,7 +20,7 @@ use Rattle.tree.specs.Fields.{mostOctets}
 use Rattle.message.specs.Reader.{listRoom, messageCodes, nsPlace, nsOf, accepted, readMessage, nsTold}
 use Rattle.message.specs.Reader as messageReader
 use Rattle.message.specs.declared.MessageRead.{MessageRead}
-use Rattle.message.specs.declared.MessageRead.the-variants.{Read, SmallList}
+use Rattle.message.specs.declared.MessageRead.the-variants.{Read, BadLent}
 use Rattle.meaning.specs.Writing.{writeMessage}
 use Rattle.meaning.specs.Writing as writing
 use Rattle.writer.specs.Writer as messageWriter
@@ -77,10 +77,10 @@ pub record ComesBack {kind revision : ℕ} {list ns : List ℕ} {opening closing
 -- There and back, in one function: the reply r and the list back₁ that the lent list back₀ becomes
 pub record ReturnsList (kind revision : ℕ) (list ns : List ℕ) (flags : Flags) (back₀ : List ℕ) (r : Trip) (back₁ : List ℕ) : Type 0 where
   -- where no message is written, the lent list stays as it was
-  pub unwritten : (no : ℕ) → writeMessage kind revision list ns mostOctets ≡ writing.declined no → (r ≡ Unwritten) × (back₁ ≡ back₀)
+  pub unwritten : (no : ℕ) → writeMessage kind revision list ns mostOctets ≡ writing.refused no → (r ≡ Unwritten) × (back₁ ≡ back₀)
   -- and so it does where the message gets no frame
   pub unframed : (os : List ℕ) (no : ℕ) → writeMessage kind revision list ns mostOctets ≡ writing.sent os
-      → writeFrame os (flags .opening) (flags .closing) frameRoom ≡ frameWriter.declined no → (r ≡ Unframed) × (back₁ ≡ back₀)
+      → writeFrame os (flags .opening) (flags .closing) frameRoom ≡ frameWriter.refused no → (r ≡ Unframed) × (back₁ ≡ back₀)
   -- otherwise what was given is what was read, and the list that was given stands at the front of the lent one
   pub returned : (os : List ℕ) (bits : List Bool) → writeMessage kind revision list ns mostOctets ≡ writing.sent os
       → writeFrame os (flags .opening) (flags .closing) frameRoom ≡ frameWriter.sent bits → listRoom ≤ length back₀
@@ -89,4 +89,4 @@ pub record ReturnsList (kind revision : ℕ) (list ns : List ℕ) (flags : Flags
   -- unless that is too small
   pub small : (os : List ℕ) (bits : List Bool) → writeMessage kind revision list ns mostOctets ≡ writing.sent os
       → writeFrame os (flags .opening) (flags .closing) frameRoom ≡ frameWriter.sent bits → length back₀ < listRoom
-      → (r ≡ Back SmallList) × (back₁ ≡ back₀)
+      → (r ≡ Back BadLent) × (back₁ ≡ back₀)

@@ -5,7 +5,7 @@ use mathlib.Core.Bool.{Bool}
 use mathlib.Core.List.{List}
 use mathlib.Core.Path.{_≡_}
 use Rattle.frame.specs.Limits.{frameRoom}
-use Rattle.frame.specs.Writer.{declined, sent, writeFrame}
+use Rattle.frame.specs.Writer.{refused, sent, writeFrame}
 use Rattle.message.specs.Reader.{Reads}
 use Rattle.message.specs.declared.MessageRead.{MessageRead}
 use Rattle.demands.specs.declared.Flags.{Flags}
@@ -20,5 +20,5 @@ pub record ReadsBack (os back₀ : List ℕ) (r : Trip) (back₁ : List ℕ) : T
 
 -- these octets get no frame, or are framed, found and read
 pub record FramesBack (os : List ℕ) (flags : Flags) (back₀ : List ℕ) (r : Trip) (back₁ : List ℕ) : Type 0 where
-  pub unframed : (no : ℕ) → writeFrame os (flags .opening) (flags .closing) frameRoom ≡ declined no → (r ≡ Unframed) × (back₁ ≡ back₀)
+  pub unframed : (no : ℕ) → writeFrame os (flags .opening) (flags .closing) frameRoom ≡ refused no → (r ≡ Unframed) × (back₁ ≡ back₀)
   pub framed : (bits : List Bool) → writeFrame os (flags .opening) (flags .closing) frameRoom ≡ sent bits → ReadsBack os back₀ r back₁

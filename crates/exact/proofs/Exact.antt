@@ -19,10 +19,11 @@ use Rattle.octets.proofs.Laws.{length-bits, bits-append}
 use Rattle.octets.proofs.Packing.{pack-octets, packed-bits, take-bits-pack, bits-pack, length-packed}
 use Rattle.fcs.specs.Division.{fcs}
 use Rattle.frame.specs.Limits.{mostInformation, mostBits, informationRoom, frameRoom, fewestOpening, mostOpening, fewestClosing, mostClosing, fewestContent, mostContent}
-use Rattle.frame.specs.Stuffing.{flag, starts, stuffed, Parts, unparted, parted, cutHere, contentFrom}
+use Rattle.frame.specs.Stuffing.{flag, starts, stuffed, Cutting, uncut, cutInto, cutHere, contentFrom}
 use Rattle.frame.specs.Frame.{flags, content, frame, flagsAt, closed, opened, framed}
 use Rattle.frame.specs.Reader.{Reading, refused, information, refusedIf, same, ahead, check, checked, alone, readFrame}
-use Rattle.frame.specs.Writer.{Writing, sent, declinedIf, writeFrame}
+use Rattle.frame.specs.Writer.{Writing, sent, writeFrame}
+use Rattle.frame.specs.Writer as writer
 use Rattle.frame.specs.Exact.{IsFrame}
 use Rattle.frame.proofs.Sights.{length-run}
 use Rattle.frame.proofs.Checking.{same-refl, same-eq}
@@ -87,18 +88,18 @@ record Begins (bs cs r : List Bool) : Type 0 where
   pub bits : bs ≡ flags opening ++ (stuffed 4 cs ++ (flags closing ++ r))
 
 -- a frame that is found stands there
-framed-is : (bs cs r : List Bool) → framed bs ≡ parted cs r → Begins bs cs r
+framed-is : (bs cs r : List Bool) → framed bs ≡ cutInto cs r → Begins bs cs r
 unfolding framed
 framed-is bs cs r e = go (leb fewestOpening o) (leb o mostOpening) (contentFrom 5 (drop (o * 8) bs)) refl refl refl e
   where
     o : ℕ
     o = flagsAt (suc mostOpening) bs
 
-    go : (f g : Bool) (x : Parts) → leb fewestOpening o ≡ f → leb o mostOpening ≡ g → contentFrom 5 (drop (o * 8) bs) ≡ x → pick (both f g) (closed x) unparted ≡ parted cs r → Begins bs cs r
+    go : (f g : Bool) (x : Cutting) → leb fewestOpening o ≡ f → leb o mostOpening ≡ g → contentFrom 5 (drop (o * 8) bs) ≡ x → pick (both f g) (closed x) uncut ≡ cutInto cs r → Begins bs cs r
     go false g x hf hg hx h = absurd (let z : _≡_ {A = ℕ} 0 1 = cc in omega arith)
     go true false x hf hg hx h = absurd (let z : _≡_ {A = ℕ} 0 1 = cc in omega arith)
-    go true true unparted hf hg hx h = absurd (let z : _≡_ {A = ℕ} 0 1 = cc in omega arith)
-    go true true (parted ds q) hf hg hx h =
+    go true true uncut hf hg hx h = absurd (let z : _≡_ {A = ℕ} 0 1 = cc in omega arith)
+    go true true (cutInto ds q) hf hg hx h =
         let c = flagsAt mostClosing q in
         let d : ds ≡ cs = cc in
         let t : drop (c * 8) q ≡ r = cc in
@@ -122,7 +123,7 @@ no-flag (false ∷ cs) t h = no-flag-zero cs t
 
 -- a frame that stands there is found, where the flags behind its content are its closing flags
 framed-frame : (info : List ℕ) (opening closing : ℕ) (r : List Bool) → fewestOpening ≤ opening → opening ≤ mostOpening → fewestClosing ≤ closing
-    → flagsAt mostClosing (flags closing ++ r) ≡ closing → framed (frame info opening closing ++ r) ≡ parted (content info) r
+    → flagsAt mostClosing (flags closing ++ r) ≡ closing → framed (frame info opening closing ++ r) ≡ cutInto (content info) r
 unfolding framed frame flags
 framed-frame info opening zero r l u m h = absurd (omega arith)
 framed-frame info opening (suc c) r l u m h =
@@ -134,7 +135,7 @@ framed-frame info opening (suc c) r l u m h =
     flags-counted opening (suc mostOpening) x (omega arith) (no-flag cs (drop 1 q) (omega (arith, length-content info))) in
     ap framed e
     ∙ rw (f, le-leb fewestOpening opening l, le-leb opening mostOpening u, drop-at (flags opening) x (opening * 8) (length-flags opening), content-stuffed cs (flags c ++ r))
-    (ap (parted cs) (ap (λ (n : ℕ). drop (n * 8) q) h ∙ drop-at (flags (suc c)) r (suc c * 8) (length-flags (suc c))))
+    (ap (cutInto cs) (ap (λ (n : ℕ). drop (n * 8) q) h ∙ drop-at (flags (suc c)) r (suc c * 8) (length-flags (suc c))))
 
 -- no flag begins nothing
 no-bits : starts flag [] ≡ false
@@ -146,12 +147,12 @@ read-is-frame : (bs : List Bool) (os : List ℕ) → alone (framed bs) ≡ infor
 unfolding alone frame
 read-is-frame bs os e = go (framed bs) refl e
   where
-    go : (x : Parts) → framed bs ≡ x → alone x ≡ information os → IsFrame bs os
-    go unparted f h = absurd (let z : _≡_ {A = ℕ} 0 1 = cc in omega arith)
-    go (parted cs (b ∷ r)) f h = absurd (let z : _≡_ {A = ℕ} 0 1 = cc in omega arith)
-    go (parted cs []) f h =
+    go : (x : Cutting) → framed bs ≡ x → alone x ≡ information os → IsFrame bs os
+    go uncut f h = absurd (let z : _≡_ {A = ℕ} 0 1 = cc in omega arith)
+    go (cutInto cs (b ∷ r)) f h = absurd (let z : _≡_ {A = ℕ} 0 1 = cc in omega arith)
+    go (cutInto cs []) f h =
         let y = checked-is cs os h in
-        let x = framed-is bs (content os) [] (f ∙ ap (λ (l : List Bool). parted l []) (y .0)) in
+        let x = framed-is bs (content os) [] (f ∙ ap (λ (l : List Bool). cutInto l []) (y .0)) in
         record {
           octets = y .1;
           some = y .2;
@@ -228,23 +229,23 @@ writer-then-reader info opening closing room h l u o₁ o₂ c₁ c₂ r tail =
       bits = take-packed f tail;
     })
 
--- bits stand behind tests that did not decline
-not-declined : (t : Bool) (k : ℕ) (x : Writing) (bs : List Bool) → declinedIf t k x ≡ sent bs → (t ≡ false) × (x ≡ sent bs)
-not-declined true k x bs e = absurd (let z : _≡_ {A = ℕ} 0 1 = cc in omega arith)
-not-declined false k x bs e = (refl, e)
+-- bits stand behind tests that did not refuse
+sent-past : (t : Bool) (k : ℕ) (x : Writing) (bs : List Bool) → writer.refusedIf t k x ≡ sent bs → (t ≡ false) × (x ≡ sent bs)
+sent-past true k x bs e = absurd (let z : _≡_ {A = ℕ} 0 1 = cc in omega arith)
+sent-past false k x bs e = (refl, e)
 
 -- the reader gives back what the writer was given, from the output that the writer leaves
 pub written-is-read : (info : List ℕ) (opening closing : ℕ) (out : List ℕ) (bs : List Bool) (room : ℕ) → AreOctets info → writeFrame info opening closing (length out) ≡ sent bs
     → informationRoom ≤ room → readFrame (put (packed bs) out) (length bs) room ≡ information info
 unfolding writeFrame put
 written-is-read info opening closing out bs room h e r =
-    let a = not-declined (ltb (length out) frameRoom) 1 _ bs e in
-    let b = not-declined (ltb (length info) 1) 7 _ bs (a .1) in
-    let c = not-declined (ltb mostInformation (length info)) 7 _ bs (b .1) in
-    let d = not-declined (ltb opening fewestOpening) 8 _ bs (c .1) in
-    let f = not-declined (ltb mostOpening opening) 8 _ bs (d .1) in
-    let g = not-declined (ltb closing fewestClosing) 8 _ bs (f .1) in
-    let i = not-declined (ltb mostClosing closing) 8 _ bs (g .1) in
+    let a = sent-past (ltb (length out) frameRoom) 1 _ bs e in
+    let b = sent-past (ltb (length info) 1) 7 _ bs (a .1) in
+    let c = sent-past (ltb mostInformation (length info)) 7 _ bs (b .1) in
+    let d = sent-past (ltb opening fewestOpening) 8 _ bs (c .1) in
+    let f = sent-past (ltb mostOpening opening) 8 _ bs (d .1) in
+    let g = sent-past (ltb closing fewestClosing) 8 _ bs (f .1) in
+    let i = sent-past (ltb mostClosing closing) 8 _ bs (g .1) in
     let j : bs ≡ frame info opening closing = cc in
     rw j
     (writer-then-reader info opening closing room h
@@ -258,25 +259,25 @@ written-is-read info opening closing out bs room h e r =
     (drop (length (packed (frame info opening closing))) out))
 
 -- behind all flags nothing stands, so no content
-no-content : (k : ℕ) → opened k (flags k) ≡ unparted
+no-content : (k : ℕ) → opened k (flags k) ≡ uncut
 unfolding contentFrom cutHere
 no-content k =
     let e : drop (k * 8) (flags k) ≡ [] = drop-of-length-le (flags k) {i = k * 8} (omega (arith, length-flags k)) in
     rw e (go (both (leb fewestOpening k) (leb k mostOpening)))
   where
-    go : (t : Bool) → pick t unparted unparted ≡ unparted
+    go : (t : Bool) → pick t uncut uncut ≡ uncut
     go true = refl
     go false = refl
 
 -- flags alone are no frame
-flags-unframed : (k : ℕ) → framed (flags k) ≡ unparted
+flags-unframed : (k : ℕ) → framed (flags k) ≡ uncut
 unfolding framed
 flags-unframed k = go (decLt mostOpening k)
   where
     e : flags k ++ [] ≡ flags k
     e = append-nil (flags k)
 
-    go : Dec (mostOpening < k) → opened (flagsAt (suc mostOpening) (flags k)) (flags k) ≡ unparted
+    go : Dec (mostOpening < k) → opened (flagsAt (suc mostOpening) (flags k)) (flags k) ≡ uncut
     go (yes y) = rw (rw e at (flags-capped k (suc mostOpening) [] (omega arith)))
     go (no y) = rw (rw e at (flags-counted k (suc mostOpening) [] (omega arith) no-bits)) (no-content k)
 

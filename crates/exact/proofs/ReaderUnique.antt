@@ -12,17 +12,17 @@ use Rattle.octets.specs.Lay.{put}
 use Rattle.octets.specs.Places.{pick}
 use Rattle.fcs.specs.Division.{fcs}
 use Rattle.frame.specs.Limits.{mostBits, informationRoom, fewestContent, mostContent}
-use Rattle.frame.specs.Stuffing.{Parts, unparted, parted}
+use Rattle.frame.specs.Stuffing.{Cutting, uncut, cutInto}
 use Rattle.frame.specs.Frame.{framed}
 use Rattle.frame.specs.Reader.{Reading, refused, information, refusedIf, same, ahead, check, checked, alone, readFrame, Reply, readTold, Reads}
 use Rattle.frame.specs.declared.FrameRead.{FrameRead}
-use Rattle.frame.specs.declared.FrameRead.the-variants.{Octets, NoRoom, BadFlags, SplitOctet, TooShort, TooLong, WrongCheck}
+use Rattle.frame.specs.declared.FrameRead.the-variants.{Octets, BadLent, BadFlags, SplitOctet, TooShort, TooLong, WrongCheck}
 
 -- the answer that a reply tells
 abbrev back : Reply → FrameRead
 back p =
     pick (eqb (p .no) 0) (Octets (p .count))
-    (pick (eqb (p .no) 1) NoRoom
+    (pick (eqb (p .no) 1) BadLent
     (pick (eqb (p .no) 2) BadFlags
     (pick (eqb (p .no) 3) SplitOctet
     (pick (eqb (p .no) 4) TooShort
@@ -31,7 +31,7 @@ back p =
 -- each answer is told by its reply
 back-told : (r : FrameRead) → back (readTold r) ≡ r
 back-told (Octets n) = refl
-back-told NoRoom = refl
+back-told BadLent = refl
 back-told BadFlags = refl
 back-told SplitOctet = refl
 back-told TooShort = refl
@@ -63,11 +63,11 @@ checked-never cs =
     (never-if (not (same (check cs) (fcs (ahead cs)))) 5 _ (λ e. let z : _≡_ {A = ℕ} 0 1 = cc in omega arith))))
 
 -- nor what is found
-alone-never : (x : Parts) → alone x ≡ refused 0 → ⊥
+alone-never : (x : Cutting) → alone x ≡ refused 0 → ⊥
 unfolding alone
-alone-never unparted e = let z : _≡_ {A = ℕ} 2 0 = cc in omega arith
-alone-never (parted cs []) e = checked-never cs e
-alone-never (parted cs (b ∷ r)) e = let z : _≡_ {A = ℕ} 2 0 = cc in omega arith
+alone-never uncut e = let z : _≡_ {A = ℕ} 2 0 = cc in omega arith
+alone-never (cutInto cs []) e = checked-never cs e
+alone-never (cutInto cs (b ∷ r)) e = let z : _≡_ {A = ℕ} 2 0 = cc in omega arith
 
 -- no refusal of the reader has the number 0
 pub read-never-zero : (run : List ℕ) (count room : ℕ) → readFrame run count room ≡ refused 0 → ⊥

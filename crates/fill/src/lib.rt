@@ -19,9 +19,9 @@ use tree::block_behind;
 use tree::top_behind;
 
 // How many codes are stored, and how far reading has come.
-pub struct Tally {
-    pub count: usize,
-    pub at: usize,
+struct Tally {
+    count: usize,
+    at: usize,
 }
 
 // Stores the lowest octet of a number at a place, where there is room for it.

@@ -10,21 +10,21 @@ use lib.ListN.{length, take, drop, length-drop}
 use lib.Seq.{drop-drop, drop-length}
 use Rattle.octets.specs.Bits.{bits}
 use Rattle.frame.specs.Limits.{mostBits}
-use Rattle.frame.specs.Stuffing.{Parts, unparted, parted, contentFrom}
+use Rattle.frame.specs.Stuffing.{Cutting, uncut, cutInto, contentFrom}
 use Rattle.frame.specs.Frame.{flagsAt, closed, framed}
 use Rattle.frame.specs.Reader.{refused, checked, alone}
-use Rattle.frame.specs.Inner.{foundParts, Finds}
+use Rattle.frame.specs.Inner.{foundCutting, Finds}
 use Rattle.frame.specs.declared.Found.{Found}
 use Rattle.frame.specs.declared.Found.the-variants.{Nothing, Upto}
 use Rattle.frame.proofs.Flags.{flags-fit}
 
--- what an answer says of the parts that it stands for
-module _ (x : Parts) (B : List Bool) (count : ℕ) (plain : List ℕ) (found : Found) (f : Finds x B count plain found) where
-  pub is-nothing : found ≡ Nothing → x ≡ unparted
-  is-nothing e = sym (f .parts) ∙ ap (foundParts B plain) e
+-- what an answer says of the cutting that it stands for
+module _ (x : Cutting) (B : List Bool) (count : ℕ) (plain : List ℕ) (found : Found) (f : Finds x B count plain found) where
+  pub is-nothing : found ≡ Nothing → x ≡ uncut
+  is-nothing e = sym (f .cutting) ∙ ap (foundCutting B plain) e
 
-  pub is-upto : (size next : ℕ) → found ≡ Upto size next → x ≡ parted (take size (bits plain)) (drop next B)
-  is-upto size next e = sym (f .parts) ∙ ap (foundParts B plain) e
+  pub is-upto : (size next : ℕ) → found ≡ Upto size next → x ≡ cutInto (take size (bits plain)) (drop next B)
+  is-upto size next e = sym (f .cutting) ∙ ap (foundCutting B plain) e
 
   pub is-within : (size next : ℕ) → found ≡ Upto size next → (size ≤ mostBits) × (next ≤ count)
   is-within size next e = rw e at (f .within)
@@ -32,11 +32,11 @@ module _ (x : Parts) (B : List Bool) (count : ℕ) (plain : List ℕ) (found : F
 module _ (B : List Bool) (start count k : ℕ) (lb : length B ≡ count) (ek : k ≡ flagsAt 6 (drop start B)) where
   pub framed-few : (plain : List ℕ) → k < 2 → Finds (framed (drop start B)) B count plain Nothing
   unfolding framed
-  framed-few plain h = record { parts = rw (← ek, lt-leb 2 k h); within = tt }
+  framed-few plain h = record { cutting = rw (← ek, lt-leb 2 k h); within = tt }
 
   pub framed-many : (plain : List ℕ) → 2 ≤ k → 5 < k → Finds (framed (drop start B)) B count plain Nothing
   unfolding framed
-  framed-many plain l h = record { parts = rw (← ek, le-leb 2 k l, lt-leb k 5 h); within = tt }
+  framed-many plain l h = record { cutting = rw (← ek, le-leb 2 k l, lt-leb k 5 h); within = tt }
 
   -- the place behind the opening flags
   pub behind-opening : start ≤ count → start + k * 8 ≤ count
@@ -49,18 +49,18 @@ module _ (B : List Bool) (start count k : ℕ) (lb : length B ≡ count) (ek : k
 
     module _ (plain : List ℕ) (found : Found) (f : Finds (contentFrom 5 (drop (start + k * 8) B)) B count plain found) where
       pub framed-nothing : found ≡ Nothing → Finds (framed (drop start B)) B count plain Nothing
-      framed-nothing e = record { parts = sym (framed-is ∙ ap closed (is-nothing _ B count plain found f e)); within = tt }
+      framed-nothing e = record { cutting = sym (framed-is ∙ ap closed (is-nothing _ B count plain found f e)); within = tt }
 
       pub framed-upto : (size next m : ℕ) → found ≡ Upto size next → m ≡ flagsAt 3 (drop next B) → Finds (framed (drop start B)) B count plain (Upto size (next + m * 8))
       framed-upto size next m e em =
           let w = is-within _ B count plain found f size next e in
           record {
-            parts = sym (framed-is ∙ ap closed (is-upto _ B count plain found f size next e) ∙ rw (← em, drop-drop (m * 8) next B));
+            cutting = sym (framed-is ∙ ap closed (is-upto _ B count plain found f size next e) ∙ rw (← em, drop-drop (m * 8) next B));
             within = (w .0, omega (arith, flags-fit 3 (drop next B), length-drop next B));
           }
 
 -- the frame alone: nothing behind it
-alone-left : (cs r : List Bool) → 0 < length r → alone (parted cs r) ≡ refused 2
+alone-left : (cs r : List Bool) → 0 < length r → alone (cutInto cs r) ≡ refused 2
 unfolding alone
 alone-left cs [] h = absurd (omega arith)
 alone-left cs (b ∷ r) h = refl
@@ -79,4 +79,4 @@ module _ (B : List Bool) (count : ℕ) (lb : length B ≡ count) (plain : List �
   unfolding alone
   alone-checked size next e n =
       ap alone (is-upto _ B count plain found f size next e)
-      ∙ ap (λ (r : List Bool). alone (parted (take size (bits plain)) r)) (ap (λ (m : ℕ). drop m B) (n ∙ sym lb) ∙ drop-length B)
+      ∙ ap (λ (r : List Bool). alone (cutInto (take size (bits plain)) r)) (ap (λ (m : ℕ). drop m B) (n ∙ sym lb) ∙ drop-length B)

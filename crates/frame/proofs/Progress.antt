@@ -14,7 +14,7 @@ use Rattle.octets.specs.Lay.{put}
 use Rattle.octets.proofs.Laws.{length-bits, bits-append}
 use Rattle.octets.proofs.Packing.{take-bits-pack, length-pack}
 use Rattle.frame.specs.Limits.{mostBits, frameRoom}
-use Rattle.frame.specs.Stuffing.{flag, stuffed, unparted, parted, contentFrom}
+use Rattle.frame.specs.Stuffing.{flag, stuffed, uncut, cutInto, contentFrom}
 use Rattle.frame.specs.Pen.{Holds, Ready}
 use Rattle.frame.specs.Inner.{taken, leftBehind, keptBehind, takens, leftsBehind, keptsBehind, NoSix, closes, Goes, Ends, Finds}
 use Rattle.frame.specs.declared.Scan.{Scan}
@@ -22,7 +22,7 @@ use Rattle.frame.specs.declared.Way.{Way}
 use Rattle.frame.specs.declared.Found.{Found}
 use Rattle.frame.specs.declared.Found.the-variants.{Nothing, Upto}
 use Rattle.frame.proofs.Transparency.{content-is}
-use Rattle.frame.proofs.Scanning.{pickParts, scan, scan-is}
+use Rattle.frame.proofs.Scanning.{pickCutting, scan, scan-is}
 
 -- the bits B were read from start up to a place: the bits put, and what the rest will give
 pub record Scanned (B : List Bool) (start : ℕ) (plain₀ plain : List ℕ) (sc : Scan) (at : ℕ) : Type 0 where
@@ -125,7 +125,7 @@ module _ (B : List Bool) (start : ℕ) (plain₀ : List ℕ) where
 
     -- at a sixth one in a row, what `scan` gives is the content
     six-is : sc .left ≡ 0 → getD B at false ≡ true
-        → pickParts (closes (sc .kept) (drop (at + 1) B)) (parted (take (length (now .done) - 6) (now .done)) (flag ++ drop 1 (drop (at + 1) B))) unparted
+        → pickCutting (closes (sc .kept) (drop (at + 1) B)) (cutInto (take (length (now .done) - 6) (now .done)) (flag ++ drop 1 (drop (at + 1) B))) uncut
         ≡ contentFrom 5 (drop start B)
     unfolding scan
     six-is z o =
@@ -134,7 +134,7 @@ module _ (B : List Bool) (start : ℕ) (plain₀ : List ℕ) where
         ∙ ap (scan (now .done) (sc .left) (sc .kept)) (sym here) ∙ now .goes
 
     -- where the rest is a flag and more, it begins six bits before the sixth one
-    rest-is : (cs : List Bool) → 1 ≤ length (drop (at + 1) B) → 6 ≤ at → contentFrom 5 (drop start B) ≡ parted cs (flag ++ drop 1 (drop (at + 1) B))
+    rest-is : (cs : List Bool) → 1 ≤ length (drop (at + 1) B) → 6 ≤ at → contentFrom 5 (drop start B) ≡ cutInto cs (flag ++ drop 1 (drop (at + 1) B))
         → drop (at - 6) B ≡ flag ++ drop 1 (drop (at + 1) B)
     rest-is cs some six e =
         let r = flag ++ drop 1 (drop (at + 1) B) in
@@ -151,7 +151,7 @@ module _ (B : List Bool) (start : ℕ) (plain₀ : List ℕ) where
   unfolding scan
   found-nothing plain sc at count now h =
       let e : drop at B ≡ [] = drop-of-length-le B {i = at} h in
-      record { parts = sym (ap (scan (now .done) (sc .left) (sc .kept)) e) ∙ now .goes; within = tt }
+      record { cutting = sym (ap (scan (now .done) (sc .left) (sc .kept)) e) ∙ now .goes; within = tt }
 
 closes-some : (kept : Bool) (r : List Bool) → closes kept r ≡ true → 1 ≤ length r
 closes-some true [] e = absurd (let z : _≡_ {A = ℕ} 0 1 = cc in omega arith)
@@ -170,11 +170,11 @@ module _ (B : List Bool) (start : ℕ) (plain₀ plain : List ℕ) (sc : Scan) (
       → Ends (drop (at + 1) B) at plain sc plain′ found → Finds (contentFrom 5 (drop start B)) B count plain′ found
   found-end plain′ found false c e =
       let f : found ≡ Nothing = e .answer ∙ ap (λ (t : Bool). pick t (Upto (sc .pen .at - 6) (at - 6)) Nothing) c in
-      let p : unparted ≡ contentFrom 5 (drop start B) = rw c at (six-is B start plain₀ plain sc at now h z o) in
-      rw f (record { parts = p; within = tt })
+      let p : uncut ≡ contentFrom 5 (drop start B) = rw c at (six-is B start plain₀ plain sc at now h z o) in
+      rw f (record { cutting = p; within = tt })
   found-end plain′ found true c e =
       let f : found ≡ Upto (sc .pen .at - 6) (at - 6) = e .answer ∙ ap (λ (t : Bool). pick t (Upto (sc .pen .at - 6) (at - 6)) Nothing) c in
-      let p : parted (take (length (now .done) - 6) (now .done)) (flag ++ drop 1 (drop (at + 1) B)) ≡ contentFrom 5 (drop start B) = rw c at (six-is B start plain₀ plain sc at now h z o) in
+      let p : cutInto (take (length (now .done) - 6) (now .done)) (flag ++ drop 1 (drop (at + 1) B)) ≡ contentFrom 5 (drop start B) = rw c at (six-is B start plain₀ plain sc at now h z o) in
       let six : 6 ≤ length (now .done) = omega (arith, now .six (closes-kept (sc .kept) (drop (at + 1) B) c)) in
       let r : drop (at - 6) B ≡ flag ++ drop 1 (drop (at + 1) B) =
       rest-is B start plain₀ plain sc at now h (take (length (now .done) - 6) (now .done)) (closes-some (sc .kept) (drop (at + 1) B) c) (omega (arith, now .few)) (sym p) in
@@ -183,7 +183,7 @@ module _ (B : List Bool) (start : ℕ) (plain₀ plain : List ℕ) (sc : Scan) (
       rw l (sym (take-take (length (now .done) - 6) (length (now .done)) (bits (put (packed (now .done)) plain₀)) (omega arith)) ∙ ap (take (length (now .done) - 6)) (bits-put (now .done) plain₀)) in
       rw f
       (record {
-        parts = rw (now .holds .at, t, r) p;
+        cutting = rw (now .holds .at, t, r) p;
         within = (omega (arith, now .few, now .holds .at), omega arith);
       })
 

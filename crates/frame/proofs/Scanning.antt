@@ -8,7 +8,7 @@ use mathlib.Core.Option.{Option, none, some}
 use native.Mathlib.Omega.{arith}
 use lib.ListN.{length, take, drop, length-append}
 use lib.Seq.{take-at}
-use Rattle.frame.specs.Stuffing.{flag, starts, unstuffed, behind, Parts, unparted, parted, before, cutHere, cut, withRest, unstuffedPart, contentFrom}
+use Rattle.frame.specs.Stuffing.{flag, starts, unstuffed, withFirst, Cutting, uncut, cutInto, withFront, cutHere, cut, withRest, unstuffedPart, contentFrom}
 use Rattle.frame.specs.Inner.{taken, keptBehind, closes}
 
 -- k ones before the bits q
@@ -16,84 +16,84 @@ abbrev pub ones : ℕ → List Bool → List Bool
 ones zero q = q
 ones (suc k) q = true ∷ ones k q
 
-abbrev pub befores : List Bool → Parts → Parts
-befores [] x = x
-befores (b ∷ bs) x = before b (befores bs x)
+abbrev pub withFronts : List Bool → Cutting → Cutting
+withFronts [] x = x
+withFronts (b ∷ bs) x = withFront b (withFronts bs x)
 
-befores-append : (c d : List Bool) (x : Parts) → befores (c ++ d) x ≡ befores c (befores d x)
-befores-append [] d x = refl
-befores-append (b ∷ c) d x = ap (before b) (befores-append c d x)
+withFronts-append : (c d : List Bool) (x : Cutting) → withFronts (c ++ d) x ≡ withFronts c (withFronts d x)
+withFronts-append [] d x = refl
+withFronts-append (b ∷ c) d x = ap (withFront b) (withFronts-append c d x)
 
-befores-unparted : (c : List Bool) → befores c unparted ≡ unparted
-befores-unparted [] = refl
-befores-unparted (b ∷ c) = ap (before b) (befores-unparted c)
+withFronts-uncut : (c : List Bool) → withFronts c uncut ≡ uncut
+withFronts-uncut [] = refl
+withFronts-uncut (b ∷ c) = ap (withFront b) (withFronts-uncut c)
 
-befores-parted : (c d r : List Bool) → befores c (parted d r) ≡ parted (c ++ d) r
-befores-parted [] d r = refl
-befores-parted (b ∷ c) d r = ap (before b) (befores-parted c d r)
+withFronts-cut : (c d r : List Bool) → withFronts c (cutInto d r) ≡ cutInto (c ++ d) r
+withFronts-cut [] d r = refl
+withFronts-cut (b ∷ c) d r = ap (withFront b) (withFronts-cut c d r)
 
-abbrev pub pickParts : Bool → Parts → Parts → Parts
-pickParts true x y = x
-pickParts false x y = y
+abbrev pub pickCutting : Bool → Cutting → Cutting → Cutting
+pickCutting true x y = x
+pickCutting false x y = y
 
 -- one bit of `contentFrom`, where no flag begins
-part-one : (k : ℕ) (x : Parts) → unstuffedPart (suc k) (before true x) ≡ before true (unstuffedPart k x)
+part-one : (k : ℕ) (x : Cutting) → unstuffedPart (suc k) (withFront true x) ≡ withFront true (unstuffedPart k x)
 unfolding unstuffed
-part-one k unparted = refl
-part-one k (parted body r) = go (unstuffed k body)
+part-one k uncut = refl
+part-one k (cutInto body r) = go (unstuffed k body)
   where
-    go : (o : Option (List Bool)) → withRest (behind true o) r ≡ before true (withRest o r)
+    go : (o : Option (List Bool)) → withRest (withFirst true o) r ≡ withFront true (withRest o r)
     go none = refl
     go (some cs) = refl
 
-part-zero : (k : ℕ) (x : Parts) → unstuffedPart (suc k) (before false x) ≡ before false (unstuffedPart 5 x)
+part-zero : (k : ℕ) (x : Cutting) → unstuffedPart (suc k) (withFront false x) ≡ withFront false (unstuffedPart 5 x)
 unfolding unstuffed
-part-zero k unparted = refl
-part-zero k (parted body r) = go (unstuffed 5 body)
+part-zero k uncut = refl
+part-zero k (cutInto body r) = go (unstuffed 5 body)
   where
-    go : (o : Option (List Bool)) → withRest (behind false o) r ≡ before false (withRest o r)
+    go : (o : Option (List Bool)) → withRest (withFirst false o) r ≡ withFront false (withRest o r)
     go none = refl
     go (some cs) = refl
 
-part-six : (x : Parts) → unstuffedPart zero (before true x) ≡ unparted
+part-six : (x : Cutting) → unstuffedPart zero (withFront true x) ≡ uncut
 unfolding unstuffed
-part-six unparted = refl
-part-six (parted body r) = refl
+part-six uncut = refl
+part-six (cutInto body r) = refl
 
-part-skip : (x : Parts) → unstuffedPart zero (before false x) ≡ unstuffedPart 5 x
+part-skip : (x : Cutting) → unstuffedPart zero (withFront false x) ≡ unstuffedPart 5 x
 unfolding unstuffed
-part-skip unparted = refl
-part-skip (parted body r) = refl
+part-skip uncut = refl
+part-skip (cutInto body r) = refl
 
-content-one : (k : ℕ) (l : List Bool) → contentFrom (suc k) (true ∷ l) ≡ before true (contentFrom k l)
+content-one : (k : ℕ) (l : List Bool) → contentFrom (suc k) (true ∷ l) ≡ withFront true (contentFrom k l)
 unfolding contentFrom cutHere starts
 content-one k l = part-one k (cut l)
 
-content-six : (l : List Bool) → contentFrom zero (true ∷ l) ≡ unparted
+content-six : (l : List Bool) → contentFrom zero (true ∷ l) ≡ uncut
 unfolding contentFrom cutHere starts
 content-six l = part-six (cut l)
 
-content-zero : (k : ℕ) (l : List Bool) → starts flag (false ∷ l) ≡ false → contentFrom (suc k) (false ∷ l) ≡ before false (contentFrom 5 l)
+content-zero : (k : ℕ) (l : List Bool) → starts flag (false ∷ l) ≡ false → contentFrom (suc k) (false ∷ l) ≡ withFront false (contentFrom 5 l)
 unfolding contentFrom cutHere
 content-zero k l f = rw f (part-zero k (cut l))
 
-content-flag : (k : ℕ) (l : List Bool) → contentFrom (suc k) (flag ++ l) ≡ parted [] (flag ++ l)
+content-flag : (k : ℕ) (l : List Bool) → contentFrom (suc k) (flag ++ l) ≡ cutInto [] (flag ++ l)
 unfolding contentFrom cutHere starts unstuffed
 content-flag k l = refl
 
 -- behind j ones
-content-ones : (j k : ℕ) (l : List Bool) → contentFrom (j + k) (ones j l) ≡ befores (ones j []) (contentFrom k l)
+content-ones : (j k : ℕ) (l : List Bool) → contentFrom (j + k) (ones j l) ≡ withFronts (ones j []) (contentFrom k l)
 content-ones zero k l = ap (λ (n : ℕ). contentFrom n l) (omega arith)
 content-ones (suc j) k l =
     let e : suc j + k ≡ suc (j + k) = omega arith in
-    rw e (content-one (j + k) (ones j l) ∙ ap (before true) (content-ones j k l))
+    rw e (content-one (j + k) (ones j l) ∙ ap (withFront true) (content-ones j k l))
 
 -- ones alone have no end
-content-endless : (k j : ℕ) → contentFrom k (ones j []) ≡ unparted
+content-endless : (k j : ℕ) → contentFrom k (ones j []) ≡ uncut
 unfolding contentFrom cutHere
 content-endless k zero = refl
 content-endless zero (suc j) = content-six (ones j [])
-content-endless (suc k) (suc j) = content-one k (ones j []) ∙ ap (before true) (content-endless k j)
+content-endless (suc k) (suc j) = content-one k (ones j []) ∙ ap (withFront true) (content-endless k j)
 
 starts-ones-end : (m j : ℕ) → starts (ones m (false ∷ [])) (ones j []) ≡ false
 unfolding starts
@@ -120,8 +120,8 @@ starts-is (false ∷ p) (true ∷ l) e = absurd (let z : _≡_ {A = ℕ} 0 1 = c
 starts-is (false ∷ p) (false ∷ l) e = ap (λ (m : List Bool). false ∷ m) (starts-is p l e)
 
 -- six ones are no content, whatever follows
-content-many : (l : List Bool) → contentFrom 5 (ones 6 l) ≡ unparted
-content-many l = content-ones 5 0 (true ∷ l) ∙ ap (befores (ones 5 [])) (content-six l)
+content-many : (l : List Bool) → contentFrom 5 (ones 6 l) ≡ uncut
+content-many l = content-ones 5 0 (true ∷ l) ∙ ap (withFronts (ones 5 [])) (content-six l)
 
 -- the zero behind five ones is left out: where a flag begins at it, neither reading finds a content
 content-skip : (l : List Bool) → contentFrom zero (false ∷ l) ≡ contentFrom 5 l
@@ -133,11 +133,11 @@ content-skip l = go (starts flag (false ∷ l)) refl
     go false e = part-skip (cut l)
 
 -- the reading, bit by bit: the bits put so far, how many ones may still come, whether the last zero stands among the bits put
-unfoldable pub scan : List Bool → ℕ → Bool → List Bool → Parts
-scan put k kept [] = unparted
+unfoldable pub scan : List Bool → ℕ → Bool → List Bool → Cutting
+scan put k kept [] = uncut
 scan put k kept (false ∷ l) = scan (put ++ taken k false) 5 (keptBehind kept k false) l
 scan put (suc k) kept (true ∷ l) = scan (put ++ (true ∷ [])) k kept l
-scan put zero kept (true ∷ l) = pickParts (closes kept l) (parted (take (length put - 6) put) (flag ++ drop 1 l)) unparted
+scan put zero kept (true ∷ l) = pickCutting (closes kept l) (cutInto (take (length put - 6) put) (flag ++ drop 1 l)) uncut
 
 -- the last zero, where it stands among the bits put, before the ones behind it
 abbrev led : Bool → List Bool → List Bool
@@ -162,44 +162,44 @@ led-one true c j = append-assoc c (false ∷ ones j []) (true ∷ []) ∙ ap (λ
 led-one false c j = append-assoc c (ones j []) (true ∷ []) ∙ ap (λ (m : List Bool). c ++ m) (ones-append j (true ∷ []) ∙ ones-one j [])
 
 -- at a zero behind fewer than six ones
-at-zero : (kept : Bool) (k j left : ℕ) (l : List Bool) → j + left ≡ 5 → contentFrom (first kept k) (led kept (ones j (false ∷ l))) ≡ befores (led kept (ones j [])) (contentFrom left (false ∷ l))
+at-zero : (kept : Bool) (k j left : ℕ) (l : List Bool) → j + left ≡ 5 → contentFrom (first kept k) (led kept (ones j (false ∷ l))) ≡ withFronts (led kept (ones j [])) (contentFrom left (false ∷ l))
 unfolding starts
 at-zero true k j left l h =
     content-zero k (ones j (false ∷ l)) (starts-ones-few 6 j (false ∷ []) l (omega arith))
-    ∙ ap (before false) (rw h at (content-ones j left (false ∷ l)))
+    ∙ ap (withFront false) (rw h at (content-ones j left (false ∷ l)))
 at-zero false k j left l h = rw h at (content-ones j left (false ∷ l))
 
 -- at the end of the bits
-at-end : (kept : Bool) (k j : ℕ) → contentFrom (first kept k) (led kept (ones j [])) ≡ unparted
+at-end : (kept : Bool) (k j : ℕ) → contentFrom (first kept k) (led kept (ones j [])) ≡ uncut
 unfolding starts
-at-end true k j = content-zero k (ones j []) (starts-ones-end 6 j) ∙ ap (before false) (content-endless 5 j)
+at-end true k j = content-zero k (ones j []) (starts-ones-end 6 j) ∙ ap (withFront false) (content-endless 5 j)
 at-end false k j = content-endless 5 j
 
 -- at a sixth one
 at-six : (kept : Bool) (k : ℕ) (c l : List Bool)
-    → pickParts (closes kept l) (parted (take (length (c ++ led kept (ones 5 [])) - 6) (c ++ led kept (ones 5 []))) (flag ++ drop 1 l)) unparted
-    ≡ befores c (contentFrom (first kept k) (led kept (ones 6 l)))
+    → pickCutting (closes kept l) (cutInto (take (length (c ++ led kept (ones 5 [])) - 6) (c ++ led kept (ones 5 []))) (flag ++ drop 1 l)) uncut
+    ≡ withFronts c (contentFrom (first kept k) (led kept (ones 6 l)))
 unfolding starts
-at-six false k c l = sym (ap (befores c) (content-many l) ∙ befores-unparted c)
-at-six true k c [] = sym (ap (befores c) (at-end true k 6) ∙ befores-unparted c)
-at-six true k c (true ∷ l) = sym (ap (befores c) (content-zero k (ones 7 l) refl ∙ ap (before false) (content-many (true ∷ l))) ∙ befores-unparted c)
+at-six false k c l = sym (ap (withFronts c) (content-many l) ∙ withFronts-uncut c)
+at-six true k c [] = sym (ap (withFronts c) (at-end true k 6) ∙ withFronts-uncut c)
+at-six true k c (true ∷ l) = sym (ap (withFronts c) (content-zero k (ones 7 l) refl ∙ ap (withFront false) (content-many (true ∷ l))) ∙ withFronts-uncut c)
 at-six true k c (false ∷ l) =
-    ap (λ (m : List Bool). parted m (flag ++ l)) (take-at c (false ∷ ones 5 []) (length (c ++ (false ∷ ones 5 [])) - 6) (omega (arith, length-append c (false ∷ ones 5 []))) ∙ sym (append-nil c))
-    ∙ sym (ap (befores c) (content-flag k l) ∙ befores-parted c [] (flag ++ l))
+    ap (λ (m : List Bool). cutInto m (flag ++ l)) (take-at c (false ∷ ones 5 []) (length (c ++ (false ∷ ones 5 [])) - 6) (omega (arith, length-append c (false ∷ ones 5 []))) ∙ sym (append-nil c))
+    ∙ sym (ap (withFronts c) (content-flag k l) ∙ withFronts-cut c [] (flag ++ l))
 
 -- where j ones were put behind the last zero, and that zero too if it was kept, and the bits c before them
 scan-led : (l : List Bool) (kept : Bool) (c : List Bool) (k j left : ℕ) → j + left ≡ 5
-    → scan (c ++ led kept (ones j [])) left kept l ≡ befores c (contentFrom (first kept k) (led kept (ones j l)))
+    → scan (c ++ led kept (ones j [])) left kept l ≡ withFronts c (contentFrom (first kept k) (led kept (ones j l)))
 unfolding scan
-scan-led [] kept c k j left h = sym (ap (befores c) (at-end kept k j) ∙ befores-unparted c)
+scan-led [] kept c k j left h = sym (ap (withFronts c) (at-end kept k j) ∙ withFronts-uncut c)
 scan-led (false ∷ l) kept c k j zero h =
     scan-led l false (c ++ led kept (ones j [])) k 0 5 refl
-    ∙ befores-append c (led kept (ones j [])) (contentFrom 5 l)
-    ∙ ap (befores c) (ap (befores (led kept (ones j []))) (sym (content-skip l)) ∙ sym (at-zero kept k j zero l h))
+    ∙ withFronts-append c (led kept (ones j [])) (contentFrom 5 l)
+    ∙ ap (withFronts c) (ap (withFronts (led kept (ones j []))) (sym (content-skip l)) ∙ sym (at-zero kept k j zero l h))
 scan-led (false ∷ l) kept c k j (suc left) h =
     scan-led l true (c ++ led kept (ones j [])) left 0 5 refl
-    ∙ befores-append c (led kept (ones j [])) (contentFrom (suc left) (false ∷ l))
-    ∙ ap (befores c) (sym (at-zero kept k j (suc left) l h))
+    ∙ withFronts-append c (led kept (ones j [])) (contentFrom (suc left) (false ∷ l))
+    ∙ ap (withFronts c) (sym (at-zero kept k j (suc left) l h))
 scan-led (true ∷ l) kept c k j (suc left) h = rw (led-one kept c j, ones-one j l) (scan-led l kept c k (suc j) left (omega arith))
 scan-led (true ∷ l) kept c k j zero h = let e : j ≡ 5 = omega arith in rw (e, ones-one 5 l) (at-six kept k c l)
 

@@ -9,7 +9,7 @@ use Rattle.octets.specs.Bits.{bits}
 use Rattle.octets.specs.Places.{pick, both}
 use Rattle.fcs.specs.Division.{fcs}
 use Rattle.frame.specs.Limits.{fewestOpening, mostOpening, mostClosing}
-use Rattle.frame.specs.Stuffing.{flag, starts, stuffed, Parts, unparted, parted, contentFrom}
+use Rattle.frame.specs.Stuffing.{flag, starts, stuffed, Cutting, uncut, cutInto, contentFrom}
 
 -- k flags, none sharing a zero with the next
 unfoldable pub flags : ℕ → List Bool
@@ -34,14 +34,14 @@ flagsAt zero bs = 0
 flagsAt (suc m) bs = oneMore (starts flag bs) (flagsAt m (drop 8 bs))
 
 -- behind the content: up to three closing flags, of which the first ended it
-abbrev pub closed : Parts → Parts
-closed unparted = unparted
-closed (parted cs r) = parted cs (drop (flagsAt mostClosing r * 8) r)
+abbrev pub closed : Cutting → Cutting
+closed uncut = uncut
+closed (cutInto cs r) = cutInto cs (drop (flagsAt mostClosing r * 8) r)
 
 -- behind the opening flags, all flags at the start: two to five of them
-abbrev pub opened : ℕ → List Bool → Parts
-opened k bs = pick (both (leb fewestOpening k) (leb k mostOpening)) (closed (contentFrom 5 (drop (k * 8) bs))) unparted
+abbrev pub opened : ℕ → List Bool → Cutting
+opened k bs = pick (both (leb fewestOpening k) (leb k mostOpening)) (closed (contentFrom 5 (drop (k * 8) bs))) uncut
 
 -- the frame that the bits begin with: its content without inserted zeros, and the bits behind its closing flags
-unfoldable pub framed : List Bool → Parts
+unfoldable pub framed : List Bool → Cutting
 framed bs = opened (flagsAt (suc mostOpening) bs) bs

@@ -9,7 +9,7 @@ use Rattle.octets.specs.Bits.{bits, packed}
 use Rattle.octets.specs.Lay.{put}
 use Rattle.octets.specs.Places.{pick}
 use Rattle.frame.specs.Limits.{mostBits}
-use Rattle.frame.specs.Stuffing.{stuffed, Parts, unparted, parted}
+use Rattle.frame.specs.Stuffing.{stuffed, Cutting, uncut, cutInto}
 use Rattle.frame.specs.Pen.{Holds, Adds, leftAfter}
 use Rattle.frame.specs.declared.Ink.{Ink}
 use Rattle.frame.specs.declared.Scan.{Scan}
@@ -92,15 +92,15 @@ pub record Ends (r : List Bool) (at : ℕ) (plain₀ : List ℕ) (scan : Scan) (
   pub plain : closes (scan .kept) r ≡ true → (o : List ℕ) (bs : List Bool) → length o ≡ length plain₀ → Holds o bs plain₀ (scan .pen) → plain₁ ≡ put (packed bs) o
 
 -- what an answer says, where bs are the bits of the run, and plain has the bits found
-abbrev pub foundParts : List Bool → List ℕ → Found → Parts
-foundParts bs plain Nothing = unparted
-foundParts bs plain (Upto size next) = parted (take size (bits plain)) (drop next bs)
+abbrev pub foundCutting : List Bool → List ℕ → Found → Cutting
+foundCutting bs plain Nothing = uncut
+foundCutting bs plain (Upto size next) = cutInto (take size (bits plain)) (drop next bs)
 
 abbrev pub Within : ℕ → Found → Type 0
 Within count Nothing = Unit {0}
 Within count (Upto size next) = (size ≤ mostBits) × (next ≤ count)
 
--- the answer r, with what plain has, is the parts x of the bits bs
-pub record Finds (x : Parts) (bs : List Bool) (count : ℕ) (plain : List ℕ) (r : Found) : Type 0 where
-  pub parts : foundParts bs plain r ≡ x
+-- the answer r, with what plain has, is the cutting x of the bits bs
+pub record Finds (x : Cutting) (bs : List Bool) (count : ℕ) (plain : List ℕ) (r : Found) : Type 0 where
+  pub cutting : foundCutting bs plain r ≡ x
   pub within : Within count r

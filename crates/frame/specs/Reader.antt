@@ -11,10 +11,10 @@ use Rattle.octets.specs.Lay.{put}
 use Rattle.fcs.specs.Division.{fcs}
 use Rattle.frame.specs.Limits.{mostBits, informationRoom, fewestContent, mostContent}
 use Rattle.octets.specs.Places.{both}
-use Rattle.frame.specs.Stuffing.{Parts, unparted, parted}
+use Rattle.frame.specs.Stuffing.{Cutting, uncut, cutInto}
 use Rattle.frame.specs.Frame.{framed}
 use Rattle.frame.specs.declared.FrameRead.{FrameRead}
-use Rattle.frame.specs.declared.FrameRead.the-variants.{Octets, NoRoom, BadFlags, SplitOctet, TooShort, TooLong, WrongCheck}
+use Rattle.frame.specs.declared.FrameRead.the-variants.{Octets, BadLent, BadFlags, SplitOctet, TooShort, TooLong, WrongCheck}
 
 -- a refusal's number, or the information
 pub data Reading : Type 0 where
@@ -49,10 +49,10 @@ checked cs =
     (information (packed (ahead cs))))))
 
 -- 2: a frame, and no bit behind it
-unfoldable pub alone : Parts → Reading
-alone unparted = refused 2
-alone (parted cs []) = checked cs
-alone (parted cs (b ∷ r)) = refused 2
+unfoldable pub alone : Cutting → Reading
+alone uncut = refused 2
+alone (cutInto cs []) = checked cs
+alone (cutInto cs (b ∷ r)) = refused 2
 
 -- 1: the bit count, the run and the output. Bits of the run beyond the count are not looked at
 unfoldable pub readFrame : List ℕ → ℕ → ℕ → Reading
@@ -70,7 +70,7 @@ pub record Reply : Type 0 where
 -- each answer's number and value
 abbrev pub readTold : FrameRead → Reply
 readTold (Octets n) = record { no = 0; count = n }
-readTold NoRoom = record { no = 1; count = 0 }
+readTold BadLent = record { no = 1; count = 0 }
 readTold BadFlags = record { no = 2; count = 0 }
 readTold SplitOctet = record { no = 3; count = 0 }
 readTold TooShort = record { no = 4; count = 0 }

@@ -23,9 +23,9 @@ stuffed k (false ∷ bs) = false ∷ stuffed 4 bs
 stuffed zero (true ∷ bs) = true ∷ false ∷ stuffed 4 bs
 stuffed (suc k) (true ∷ bs) = true ∷ stuffed k bs
 
-abbrev pub behind : Bool → Option (List Bool) → Option (List Bool)
-behind b none = none
-behind b (some bs) = some (b ∷ bs)
+abbrev pub withFirst : Bool → Option (List Bool) → Option (List Bool)
+withFirst b none = none
+withFirst b (some bs) = some (b ∷ bs)
 
 -- receiving: the zero after every five ones is taken out. k ones may still come; after five only the zero may.
 -- There is no answer where a sixth one stands, or where five ones end the bits without their zero
@@ -34,35 +34,35 @@ unstuffed zero [] = none
 unstuffed (suc k) [] = some []
 unstuffed zero (true ∷ bs) = none
 unstuffed zero (false ∷ bs) = unstuffed 5 bs
-unstuffed (suc k) (true ∷ bs) = behind true (unstuffed k bs)
-unstuffed (suc k) (false ∷ bs) = behind false (unstuffed 5 bs)
+unstuffed (suc k) (true ∷ bs) = withFirst true (unstuffed k bs)
+unstuffed (suc k) (false ∷ bs) = withFirst false (unstuffed 5 bs)
 
 -- bits taken from the front of some, and those that follow; or nothing of the kind
-pub data Parts : Type 0 where
-  unparted : Parts
-  parted : List Bool → List Bool → Parts
+pub data Cutting : Type 0 where
+  uncut : Cutting
+  cutInto : List Bool → List Bool → Cutting
 
-abbrev pub before : Bool → Parts → Parts
-before b unparted = unparted
-before b (parted bs r) = parted (b ∷ bs) r
+abbrev pub withFront : Bool → Cutting → Cutting
+withFront b uncut = uncut
+withFront b (cutInto bs r) = cutInto (b ∷ bs) r
 
 -- the bits before the first flag, and those from it on. The first argument says whether a flag begins here
-unfoldable pub cutHere : Bool → List Bool → Parts
-cutHere f [] = unparted
-cutHere true (b ∷ bs) = parted [] (b ∷ bs)
-cutHere false (b ∷ bs) = before b (cutHere (starts flag bs) bs)
+unfoldable pub cutHere : Bool → List Bool → Cutting
+cutHere f [] = uncut
+cutHere true (b ∷ bs) = cutInto [] (b ∷ bs)
+cutHere false (b ∷ bs) = withFront b (cutHere (starts flag bs) bs)
 
-abbrev pub cut : List Bool → Parts
+abbrev pub cut : List Bool → Cutting
 cut bs = cutHere (starts flag bs) bs
 
-abbrev pub withRest : Option (List Bool) → List Bool → Parts
-withRest none r = unparted
-withRest (some cs) r = parted cs r
+abbrev pub withRest : Option (List Bool) → List Bool → Cutting
+withRest none r = uncut
+withRest (some cs) r = cutInto cs r
 
-abbrev pub unstuffedPart : ℕ → Parts → Parts
-unstuffedPart k unparted = unparted
-unstuffedPart k (parted body r) = withRest (unstuffed k body) r
+abbrev pub unstuffedPart : ℕ → Cutting → Cutting
+unstuffedPart k uncut = uncut
+unstuffedPart k (cutInto body r) = withRest (unstuffed k body) r
 
 -- the content without its inserted zeros, and the bits from the closing flag on. The content ends at the first flag
-unfoldable pub contentFrom : ℕ → List Bool → Parts
+unfoldable pub contentFrom : ℕ → List Bool → Cutting
 contentFrom k bs = unstuffedPart k (cut bs)

@@ -44,9 +44,10 @@ const FEWEST_CONTENT: usize = 3;
 const MOST_CONTENT: usize = 66;
 
 // The frame reader's answer: the number of information octets, or why there are none.
+// BadLent: the bit count is above 704 or more than the run has, or the output is under 64 octets.
 pub enum FrameRead {
     Octets(usize),
-    NoRoom,
+    BadLent,
     BadFlags,
     SplitOctet,
     TooShort,
@@ -54,18 +55,18 @@ pub enum FrameRead {
     WrongCheck,
 }
 
-// The frame writer's answer: the number of bits, or why there are none.
+// The frame writer's answer: the number of bits, or why there are none. BadLent: the output is under 88 octets.
 pub enum FrameWritten {
     Bits(usize),
-    SmallOutput,
+    BadLent,
     BadLength,
     BadFlagCount,
 }
 
 // Where the next bit goes, and the bits of its octet that are not stored yet.
-pub struct Pen {
-    pub at: usize,
-    pub octet: u8,
+struct Pen {
+    at: usize,
+    octet: u8,
 }
 
 // Puts the width lowest bits of a value.
@@ -119,9 +120,9 @@ fn put_flags(out: &mut [u8], start: Pen, count: usize) -> Pen
 }
 
 // A pen, and how many ones may still come before the one that a zero follows.
-pub struct Ink {
-    pub pen: Pen,
-    pub left: usize,
+struct Ink {
+    pen: Pen,
+    left: usize,
 }
 
 // How many bits of an octet there are up to the first of these: the last of so many ones at its front, or of five in a row. 9 where there are none.
@@ -250,7 +251,7 @@ pub fn write_frame(info: &[u8], opening: usize, closing: usize, out: &mut [u8]) 
     ensures { λ r. ⌜ FrameWrites (now (info .entry)) opening closing (now (out .entry)) r (now (out .exit)) ⌝ }
 {
     if out.len() < FRAME_ROOM {
-        return FrameWritten::SmallOutput;
+        return FrameWritten::BadLent;
     }
     if info.len() < 1 {
         return FrameWritten::BadLength;
@@ -303,16 +304,16 @@ fn count_flags(run: &[u8], count: usize, start: usize, most: usize) -> usize
 }
 
 // What reading found: how many bits of content, and the place where what follows begins.
-pub enum Found {
+enum Found {
     Nothing,
     Upto { bits: usize, next: usize },
 }
 
 // Where the content's next bit goes, how many ones may still come in a row, and whether the last zero stands in the content.
-pub struct Scan {
-    pub pen: Pen,
-    pub left: usize,
-    pub kept: bool,
+struct Scan {
+    pen: Pen,
+    left: usize,
+    kept: bool,
 }
 
 // Takes one bit of the content, no inserted zero.
@@ -395,9 +396,9 @@ fn take_part(plain: &mut [u8], scan: Scan, octet: u8, width: usize) -> Scan
 }
 
 // How far reading has come.
-pub struct Way {
-    pub scan: Scan,
-    pub at: usize,
+struct Way {
+    scan: Scan,
+    at: usize,
 }
 
 // Takes one bit, no inserted zero.
@@ -562,13 +563,13 @@ pub fn read_frame(run: &[u8], count: usize, out: &mut [u8]) -> FrameRead
     ensures { λ r. ⌜ FrameReads (now (run .entry)) count (now (out .entry)) r (now (out .exit)) ⌝ }
 {
     if MOST_BITS < count {
-        return FrameRead::NoRoom;
+        return FrameRead::BadLent;
     }
     if run.len() < (count + 7) / 8 {
-        return FrameRead::NoRoom;
+        return FrameRead::BadLent;
     }
     if out.len() < INFORMATION_ROOM {
-        return FrameRead::NoRoom;
+        return FrameRead::BadLent;
     }
     read_whole(run, count, out)
 }

@@ -22,7 +22,7 @@ use Rattle.meaning.proofs.Blocks.{rising-numbers}
 use Rattle.octets.proofs.Laws.{both-true}
 use Rattle.meaning.proofs.Trees.{Rising}
 use Rattle.names.specs.Tables.{sparBlocks}
-use Rattle.names.specs.Named.{rowsUnder, isStandard}
+use Rattle.names.specs.Named.{printedUnder, isStandard}
 use Rattle.names.specs.Masks.{maskOf, sparPlaces}
 use Rattle.names.proofs.Blocks.{every, under-every}
 use Rattle.good.specs.Judging.{sparBits, allNamed}
@@ -34,9 +34,9 @@ first-only : (c : ℕ) → 0 < c % ofF → sparBits c < 2
 unfolding sparPlaces maskOf every
 first-only c h =
     ⊎-elim
-    (λ (e : rowsUnder c sparBlocks ≡ []). rw e (omega arith))
-    (λ e. ltb-true (maskOf isStandard (rowsUnder c sparBlocks)) 2 (rw (ne-eqb (c % ofF) 0 (λ z. omega arith)) at e))
-    (under-every (λ x rows. pick (eqb (x % ofF) 0) true (ltb (maskOf isStandard rows) 2)) sparBlocks c refl)
+    (λ (e : printedUnder c sparBlocks ≡ []). rw e (omega arith))
+    (λ e. ltb-true (maskOf isStandard (printedUnder c sparBlocks)) 2 (rw (ne-eqb (c % ofF) 0 (λ z. omega arith)) at e))
+    (under-every (λ x printed. pick (eqb (x % ofF) 0) true (ltb (maskOf isStandard printed) 2)) sparBlocks c refl)
 
 -- a bit of such a number is its lowest
 lowest-named : (n q : ℕ) → n < 2 → odd (n / 2 ^ (q - 1)) ≡ true → q ≤ 1

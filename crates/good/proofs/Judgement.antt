@@ -23,7 +23,7 @@ use Rattle.meaning.proofs.Trees.{Rising}
 use Rattle.names.specs.Named.{standardCode}
 use Rattle.names.specs.Masks.{nparPlaces, sparPlaces}
 use Rattle.names.specs.declared.Keep.the-variants.{Standard}
-use Rattle.names.proofs.Rows.{keeps-npar, keeps-spar1, keeps-spar2}
+use Rattle.names.proofs.Printings.{keeps-npar, keeps-spar1, keeps-spar2}
 use Rattle.good.specs.Good.{allStandard}
 use Rattle.good.specs.Judging.{nparBits, sparBits, allNamed, goodBlock, goodSub, goodGroup, goodPar, goodPars, goodRest, goodStandard}
 use Rattle.good.proofs.Allowed.{both-none, both-assoc}

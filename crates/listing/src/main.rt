@@ -111,7 +111,7 @@ fn print_listing(field: &[u8]) {
     let mut list = [0u32; LIST_ROOM];
     match message::read_message(field, &mut list) {
         MessageRead::Read(m) => print_message(m, &list),
-        MessageRead::SmallList => print_refusal(1),
+        MessageRead::BadLent => print_refusal(1),
         MessageRead::BadSize => print_refusal(2),
         MessageRead::UnknownType => print_refusal(3),
         MessageRead::Malformed => print_refusal(4),

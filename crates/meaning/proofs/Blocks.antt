@@ -18,7 +18,7 @@ use Rattle.octets.specs.Places.{pick}
 use Rattle.tree.specs.Block.{keep, setBits, blockNumbers, blockEnd, numbers, behind, ended}
 use Rattle.tree.specs.Form.{blockForm, formAt}
 use Rattle.tree.specs.declared.Form.the-variants.{Fine}
-use Rattle.meaning.specs.Written.{passed, skipped, carried, blockFrom, block, marked}
+use Rattle.meaning.specs.Written.{passed, skipped, carried, blockFrom, blockOctets, marked}
 use Rattle.meaning.specs.Minimal.{fullAtEnd, tight, tightAt}
 use Rattle.tree.proofs.Numbering.{shift, keep-append, setBits-over, setBits-more, setBits-zero, numbers-shift}
 use Rattle.meaning.proofs.Trees.{Rising}
@@ -304,17 +304,17 @@ module _ (w k : ℕ) (wide : 0 < w) (some : 0 < k) where
       go (q ∷ qs) r n = rw (far-all w M p a (q ∷ qs) wide (omega arith) r) (omega arith)
 
   -- of rising positions a tight block is written
-  pub block-made : (qs : List ℕ) → Rising 0 qs → Tight w k qs (block w (k * 2 ^ w) qs)
+  pub block-made : (qs : List ℕ) → Rising 0 qs → Tight w k qs (blockOctets w (k * 2 ^ w) qs)
   block-made qs r =
       let m = made qs 0 0 0 (omega arith) (omega arith) (omega arith) r in
       record { ends = m .ends; reads = m .reads ∙ rw (setBits-zero w 0); full = go qs (m .full) }
     where
-      go : (qs : List ℕ) → (0 < 0 + length qs → fullAtEnd (2 ^ w) (block w (k * 2 ^ w) qs) ≡ true) → tight (2 ^ w) (block w (k * 2 ^ w) qs) ≡ true
+      go : (qs : List ℕ) → (0 < 0 + length qs → fullAtEnd (2 ^ w) (blockOctets w (k * 2 ^ w) qs) ≡ true) → tight (2 ^ w) (blockOctets w (k * 2 ^ w) qs) ≡ true
       go [] f = unfold blockFrom tight fullAtEnd in rw (le-ltb (0 + k * 2 ^ w) (2 ^ w) (past (2 ^ w) k some 0))
       go (q ∷ qs) f = full-tight (2 ^ w) _ (f (omega arith))
 
   -- a tight block of given positions is the one that is written
-  pub block-back : (qs B : List ℕ) → w * length B ≤ 511 → Tight w k qs B → block w (k * 2 ^ w) qs ≡ B
+  pub block-back : (qs B : List ℕ) → w * length B ≤ 511 → Tight w k qs B → blockOctets w (k * 2 ^ w) qs ≡ B
   block-back qs B s t = rw (← (t .reads)) (back 0 B (omega arith) (t .ends) (t .full))
 
 -- ---- bit 8
@@ -373,17 +373,17 @@ opened w p a (q ∷ qs) =
     }
 
 -- no block is empty
-pub block-some : (w M : ℕ) (qs : List ℕ) → 0 < length (block w M qs)
+pub block-some : (w M : ℕ) (qs : List ℕ) → 0 < length (blockOctets w M qs)
 block-some w M qs = let o = opened w 0 0 qs in rw (o .whole M, length-append (o .before)) (omega arith)
 
 -- a marked block is the block with bit 8 in its delimiter
-pub block-marked : (qs : List ℕ) → Rising 0 qs → marked (block 6 64 qs) ≡ block 6 192 qs
+pub block-marked : (qs : List ℕ) → Rising 0 qs → marked (blockOctets 6 64 qs) ≡ blockOctets 6 192 qs
 unfolding marked
 block-marked qs r =
     let o = opened 6 0 0 qs in
-    let top = last-octet 64 1 (block 6 64 qs) [] (block-made 6 1 (omega arith) (omega arith) qs r .ends) .1 in
+    let top = last-octet 64 1 (blockOctets 6 64 qs) [] (block-made 6 1 (omega arith) (omega arith) qs r .ends) .1 in
     let end : length (o .before ++ (o .bits + 64) ∷ []) - 1 ≡ length (o .before) = rw (length-append (o .before)) (omega arith) in
-    let it : getD (block 6 64 qs ++ []) (length (block 6 64 qs) - 1) 0 ≡ o .bits + 64 = rw (append-nil (block 6 64 qs), o .whole 64, end) (getD-append-seam (o .before) (o .bits + 64) [] 0) in
+    let it : getD (blockOctets 6 64 qs ++ []) (length (blockOctets 6 64 qs) - 1) 0 ≡ o .bits + 64 = rw (append-nil (blockOctets 6 64 qs), o .whole 64, end) (getD-append-seam (o .before) (o .bits + 64) [] 0) in
     rw (o .whole 64, o .whole 192, marked-append (o .before) ((o .bits + 64) ∷ []) (omega arith))
     (ap (λ (d : ℕ). o .before ++ d ∷ []) (omega arith))
 
@@ -393,10 +393,10 @@ none [] = true
 none (x ∷ l) = false
 
 -- a block and what follows, marked: bit 8 stands in the block if nothing follows
-pub marked-block : (qs Y : List ℕ) → Rising 0 qs → marked (block 6 64 qs ++ Y) ≡ block 6 (closing (none Y) * 64) qs ++ marked Y
+pub marked-block : (qs Y : List ℕ) → Rising 0 qs → marked (blockOctets 6 64 qs ++ Y) ≡ blockOctets 6 (closing (none Y) * 64) qs ++ marked Y
 unfolding marked
-marked-block qs [] r = rw (append-nil (block 6 64 qs), append-nil (block 6 192 qs)) (block-marked qs r)
-marked-block qs (y ∷ Y) r = marked-append (block 6 64 qs) (y ∷ Y) (omega arith)
+marked-block qs [] r = rw (append-nil (blockOctets 6 64 qs), append-nil (blockOctets 6 192 qs)) (block-marked qs r)
+marked-block qs (y ∷ Y) r = marked-append (blockOctets 6 64 qs) (y ∷ Y) (omega arith)
 
 -- ---- a block where it stands
 
@@ -435,10 +435,10 @@ pub record Stands (w m : ℕ) (qs l : List ℕ) (e : ℕ) (B R : List ℕ) : Typ
   pub minimal : tightAt m l e ≡ true
 
 -- so a block stands there that was written of rising positions
-block-stands : (w k : ℕ) (qs l : List ℕ) (e : ℕ) (R : List ℕ) → 0 < w → 0 < k → k % 2 ≡ 1 → Rising 0 qs → drop e l ≡ block w (k * 2 ^ w) qs ++ R
-    → Stands w (2 ^ w) qs l e (block w (k * 2 ^ w) qs) R × At (2 ^ w) k l e (block w (k * 2 ^ w) qs) R
+block-stands : (w k : ℕ) (qs l : List ℕ) (e : ℕ) (R : List ℕ) → 0 < w → 0 < k → k % 2 ≡ 1 → Rising 0 qs → drop e l ≡ blockOctets w (k * 2 ^ w) qs ++ R
+    → Stands w (2 ^ w) qs l e (blockOctets w (k * 2 ^ w) qs) R × At (2 ^ w) k l e (blockOctets w (k * 2 ^ w) qs) R
 block-stands w k qs l e R wide some o r h =
-    let B = block w (k * 2 ^ w) qs in
+    let B = blockOctets w (k * 2 ^ w) qs in
     let t = block-made w k wide some qs r in
     let a = ends-at (2 ^ w) k l e B R some (t .ends) h in
     let set : numbers w (2 ^ w) 0 l e ≡ qs = a .says w 0 ∙ t .reads in (
@@ -454,12 +454,12 @@ block-stands w k qs l e R wide some o r h =
     )
 
 -- that of level 1
-pub top-stands : (qs l : List ℕ) (e : ℕ) (R : List ℕ) → Rising 0 qs → drop e l ≡ block 7 128 qs ++ R → Stands 7 128 qs l e (block 7 128 qs) R
+pub top-stands : (qs l : List ℕ) (e : ℕ) (R : List ℕ) → Rising 0 qs → drop e l ≡ blockOctets 7 128 qs ++ R → Stands 7 128 qs l e (blockOctets 7 128 qs) R
 top-stands qs l e R r h = block-stands 7 1 qs l e R (omega arith) (omega arith) refl r h .0
 
 -- that of a lower level: bit 8 stands in the last octet exactly if the delimiter has it
-pub low-stands : (t : Bool) (qs l : List ℕ) (e : ℕ) (R : List ℕ) → Rising 0 qs → drop e l ≡ block 6 (closing t * 64) qs ++ R
-    → Stands 6 64 qs l e (block 6 (closing t * 64) qs) R × (ended l (behind 64 l e) ≡ t)
+pub low-stands : (t : Bool) (qs l : List ℕ) (e : ℕ) (R : List ℕ) → Rising 0 qs → drop e l ≡ blockOctets 6 (closing t * 64) qs ++ R
+    → Stands 6 64 qs l e (blockOctets 6 (closing t * 64) qs) R × (ended l (behind 64 l e) ≡ t)
 low-stands t qs l e R r h =
     let k = closing-odd t in
     let s = block-stands 6 (closing t) qs l e R (omega arith) (k .0) (k .1) r h in

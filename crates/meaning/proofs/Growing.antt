@@ -15,7 +15,7 @@ use lib.ListN.{length, length-append}
 use Rattle.tree.specs.Codes.{ofF, ofS}
 use Rattle.octets.specs.Places.{pick}
 use Rattle.tree.specs.Fields.{isIn}
-use Rattle.meaning.specs.Written.{block, marked, run, from, positions, subsWritten, lowerWritten, parWritten, parsWritten, restWritten, written}
+use Rattle.meaning.specs.Written.{blockOctets, marked, run, from, positions, subsWritten, lowerWritten, parWritten, parsWritten, restWritten, written}
 use Rattle.meaning.proofs.Trees.{Sub, sub, Par, par, Tree, tree, subPlaces, parPlaces, subsCodes, parsCodes, treeCodes, subsOctets, lowerOctets, parOctets, parsOctets, treeOctets, Rising, GoodSubs, GoodPars, GoodTree}
 use Rattle.tree.proofs.Numbering.{shift}
 
@@ -234,7 +234,7 @@ subs-back (suc k) c t ((sub q ks) ∷ gs) h r g =
     let cut = cut-join (suc e) (e + 512) (c + ofS) (shift e ks) S (npar-within e ks (g .0)) (subs-within c q (e + 512) gs (omega arith) (r .2) (g .1)) in
     let d : (e - c) / 512 ≡ q = omega arith in
     let ih = subs-back k c q gs (omega (arith, length-append (shift e ks) S)) (r .2) (g .1) in
-    rw (cut .0, cut .1, shift-positions e ks, d) (ap (λ (x : List Sub). sub q ks ∷ x) (ih .0), ap (λ (x : List ℕ). block 6 64 ks ++ x) (ih .1))
+    rw (cut .0, cut .1, shift-positions e ks, d) (ap (λ (x : List Sub). sub q ks ∷ x) (ih .0), ap (λ (x : List ℕ). blockOctets 6 64 ks ++ x) (ih .1))
 
 -- so what is written of them with their SPar(2) is the octets with it
 lower-back : (c : ℕ) (gs : List Sub) → Rising 0 (subPlaces gs) → GoodSubs gs → lowerWritten c (subsCodes c gs) ≡ lowerOctets gs
@@ -242,8 +242,8 @@ unfolding subsCodes lowerWritten lowerOctets
 lower-back c [] r g = refl
 lower-back c ((sub q ks) ∷ gs) r g =
     let G = (sub q ks) ∷ gs in
-    ap (λ (x : List ℕ). block 6 64 x ++ subsWritten (length (subsCodes c G)) (subsCodes c G)) (subs-positions c 0 G r g)
-    ∙ ap (λ (x : List ℕ). block 6 64 (subPlaces G) ++ x) (subs-back (length (subsCodes c G)) c 0 G (omega arith) r g .1)
+    ap (λ (x : List ℕ). blockOctets 6 64 x ++ subsWritten (length (subsCodes c G)) (subsCodes c G)) (subs-positions c 0 G r g)
+    ∙ ap (λ (x : List ℕ). blockOctets 6 64 (subPlaces G) ++ x) (subs-back (length (subsCodes c G)) c 0 G (omega arith) r g .1)
 
 -- ---- an SPar(1) with all under it
 
@@ -262,7 +262,7 @@ par-back s c ns gs n r g =
     let cut = cut-join (suc c) (c + 512) (c + ofS) (shift c ns) S (npar-within c ns n) (subs-within c 0 (c + 512) gs (omega arith) r g) in
     rw (cut .0, cut .1, shift-positions c ns) (
       ap (par s ns) (subs-back (length S) c 0 gs (omega arith) r g .0),
-      ap (λ (x : List ℕ). marked (block 6 64 ns ++ x)) (lower-back c gs r g),
+      ap (λ (x : List ℕ). marked (blockOctets 6 64 ns ++ x)) (lower-back c gs r g),
     )
 
 -- ---- a field

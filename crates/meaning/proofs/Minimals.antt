@@ -21,7 +21,7 @@ use Rattle.tree.proofs.Forms.{and-parts}
 use Rattle.tree.specs.Form.{andThen, lastForm, blockForm, formAt, subsForm, groupForm, parsForm, restForm, fieldForm}
 use Rattle.tree.specs.declared.Form.{Form}
 use Rattle.tree.specs.declared.Form.the-variants.{Fine, Early, Wrong, Left, BadLength}
-use Rattle.meaning.specs.Written.{block, marked}
+use Rattle.meaning.specs.Written.{blockOctets, marked}
 use Rattle.meaning.specs.Minimal.{tightAt, subsMinimal, groupMinimal, parsMinimal, fieldMinimal}
 use Rattle.meaning.proofs.Trees.{Sub, subPlaces, subsOctets, lowerOctets, parOctets, parsOctets, treeOctets}
 use Rattle.meaning.proofs.Blocks.{Ends, last, more, ends-at, shorter, block-back, closing, none}
@@ -64,8 +64,8 @@ record Found (w m : ℕ) (l : List ℕ) (e : ℕ) : Type 0 where
   odd-k : k % 2 ≡ 1
   low : k * m ≤ getD l (behind m l e - 1) 0
   high : getD l (behind m l e - 1) 0 < k * m + m
-  less : (M : ℕ) → e + length (block w M (numbers w m 0 l e)) ≤ behind m l e
-  same : tightAt m l e ≡ true → drop e l ≡ block w (k * m) (numbers w m 0 l e) ++ drop (behind m l e) l
+  less : (M : ℕ) → e + length (blockOctets w M (numbers w m 0 l e)) ≤ behind m l e
+  same : tightAt m l e ≡ true → drop e l ≡ blockOctets w (k * m) (numbers w m 0 l e) ++ drop (behind m l e) l
 
 -- a block that stands there, and so any well-formed one
 found-cut : (w k : ℕ) (l : List ℕ) (e : ℕ) (B R : List ℕ) → 0 < w → w ≤ 7 → length l ≤ 64 → k % 2 ≡ 1 → Ends (2 ^ w) k B → drop e l ≡ B ++ R → Found w (2 ^ w) l e
@@ -144,19 +144,19 @@ none-at (t ∷ ts) l e = refl
 module _ (l : List ℕ) (short : length l ≤ 64) (octets : AreOctets l) where
   -- a block of level 1, and what is kept behind it
   top-kept : (e : ℕ) (u : Bool) (C : List ℕ) (y : ℕ) → formAt 128 l e ≡ Fine → Kept u l (behind 128 l e) C y
-      → Kept (both (tightAt 128 l e) u) l e (block 7 128 (numbers 7 128 0 l e) ++ C) y
+      → Kept (both (tightAt 128 l e) u) l e (blockOctets 7 128 (numbers 7 128 0 l e) ++ C) y
   top-kept e u C y f r =
       let a = found 7 l e (omega arith) (omega arith) short f in
       let only : a .k ≡ 1 = omega (arith, a .odd-k, a .low, octet-at l (behind 128 l e - 1) octets) in
-      kept-on (tightAt 128 l e) u l e (behind 128 l e) y (block 7 128 (numbers 7 128 0 l e)) C (a .less 128) (λ t w. rw only at (a .same t)) r
+      kept-on (tightAt 128 l e) u l e (behind 128 l e) y (blockOctets 7 128 (numbers 7 128 0 l e)) C (a .less 128) (λ t w. rw only at (a .same t)) r
 
   -- a block below level 1, with bit 8 where it should be
   low-kept : (e : ℕ) (b u : Bool) (C : List ℕ) (y : ℕ) → formAt 64 l e ≡ Fine → (u ≡ true → ended l (behind 64 l e) ≡ b) → Kept u l (behind 64 l e) C y
-      → Kept (both (tightAt 64 l e) u) l e (block 6 (closing b * 64) (numbers 6 64 0 l e) ++ C) y
+      → Kept (both (tightAt 64 l e) u) l e (blockOctets 6 (closing b * 64) (numbers 6 64 0 l e) ++ C) y
   low-kept e b u C y f h r =
       let a = found 6 l e (omega arith) (omega arith) short f in
       let only : a .k ≡ closing (ended l (behind 64 l e)) = closing-only (a .k) _ (a .odd-k) (a .low) (a .high) (octet-at l _ octets) in
-      kept-on (tightAt 64 l e) u l e (behind 64 l e) y (block 6 (closing b * 64) (numbers 6 64 0 l e)) C (a .less (closing b * 64)) (λ t w. rw (only, h w) at (a .same t)) r
+      kept-on (tightAt 64 l e) u l e (behind 64 l e) y (blockOctets 6 (closing b * 64) (numbers 6 64 0 l e)) C (a .less (closing b * 64)) (λ t w. rw (only, h w) at (a .same t)) r
 
   -- the NPar(3) blocks
   subs-kept : (ts : List ℕ) (e : ℕ) → subsForm (length ts) l e ≡ Fine → Kept (subsMinimal (length ts) l e) l e (marked (subsOctets (subsAt ts l e))) (subsBehind (length ts) l e)
@@ -224,7 +224,7 @@ module _ (l : List ℕ) (short : length l ≤ 64) (octets : AreOctets l) where
       let p = and-parts (formAt 64 l e) _ f in
       let q = and-parts (groupForm l x) (parsForm (length ss) l y) (p .1) in
       let g = group-kept x (q .0) in
-      rw (marked-lower ns gs (rising-at l short 6 64 e (omega arith)), append-assoc (block 6 (closing (none gs) * 64) ns) G P)
+      rw (marked-lower ns gs (rising-at l short 6 64 e (omega arith)), append-assoc (blockOctets 6 (closing (none gs) * 64) ns) G P)
       (low-kept e (none gs) _ (G ++ P) _ (p .0) (λ u. g .1 (both-true (groupMinimal l x) _ u .0))
       (kept-on (groupMinimal l x) _ l x y _ G P (g .0 .less) (λ t u. g .0 .same t) (pars-kept ss y (q .1))))
 

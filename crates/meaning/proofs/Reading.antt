@@ -17,7 +17,7 @@ use Rattle.tree.specs.Codes.{subCodes, subsBehind, groupCodes, groupBehind, par
 use Rattle.tree.specs.Form.{subsForm, groupForm, parsForm, restForm, fieldForm}
 use Rattle.tree.specs.declared.Form.{Form}
 use Rattle.tree.specs.declared.Form.the-variants.{Fine}
-use Rattle.meaning.specs.Written.{block, marked}
+use Rattle.meaning.specs.Written.{blockOctets, marked}
 use Rattle.meaning.specs.Minimal.{subsMinimal, groupMinimal, parsMinimal, fieldMinimal}
 use Rattle.meaning.proofs.Trees.{Sub, sub, Par, par, Tree, tree, subPlaces, parPlaces, subsCodes, parsCodes, treeCodes, subsOctets, lowerOctets, parOctets, parsOctets, treeOctets, Rising, GoodSubs, GoodPars, GoodTree}
 use Rattle.tree.proofs.Numbering.{numbers-shift}
@@ -33,8 +33,8 @@ pub record Reads (found codes : List ℕ) (end e : ℕ) (octets : List ℕ) (for
   pub tight : minimal ≡ true
 
 -- a block is something
-block-there : (qs Y : List ℕ) → none (block 6 64 qs ++ Y) ≡ false
-block-there qs Y = go (block 6 64 qs) (block-some 6 64 qs)
+block-there : (qs Y : List ℕ) → none (blockOctets 6 64 qs ++ Y) ≡ false
+block-there qs Y = go (blockOctets 6 64 qs) (block-some 6 64 qs)
   where
     go : (X : List ℕ) → 0 < length X → none (X ++ Y) ≡ false
     go [] h = absurd (omega arith)
@@ -52,10 +52,10 @@ none-lower [] = refl
 none-lower (g ∷ gs) = block-there (subPlaces (g ∷ gs)) (subsOctets (g ∷ gs))
 
 -- a block and what follows in its Par(2) block, marked: bit 8 stands in it if no nodes follow
-pub marked-subs : (ks : List ℕ) (gs : List Sub) → Rising 0 ks → marked (block 6 64 ks ++ subsOctets gs) ≡ block 6 (closing (none gs) * 64) ks ++ marked (subsOctets gs)
+pub marked-subs : (ks : List ℕ) (gs : List Sub) → Rising 0 ks → marked (blockOctets 6 64 ks ++ subsOctets gs) ≡ blockOctets 6 (closing (none gs) * 64) ks ++ marked (subsOctets gs)
 marked-subs ks gs r = rw (marked-block ks (subsOctets gs) r, none-subs gs)
 
-pub marked-lower : (ns : List ℕ) (gs : List Sub) → Rising 0 ns → marked (block 6 64 ns ++ lowerOctets gs) ≡ block 6 (closing (none gs) * 64) ns ++ marked (lowerOctets gs)
+pub marked-lower : (ns : List ℕ) (gs : List Sub) → Rising 0 ns → marked (blockOctets 6 64 ns ++ lowerOctets gs) ≡ blockOctets 6 (closing (none gs) * 64) ns ++ marked (lowerOctets gs)
 marked-lower ns gs r = rw (marked-block ns (lowerOctets gs) r, none-lower gs)
 
 -- the NPar(3) blocks
@@ -65,9 +65,9 @@ subs-read : (c : ℕ) (gs : List Sub) (l : List ℕ) (e : ℕ) (R : List ℕ) �
 unfolding GoodSubs subCodes subsCodes subsBehind subsOctets subsForm subsMinimal
 subs-read c [] l e R w h b = unfold marked in record { told = refl; next = omega arith; fine = rw b; tight = refl }
 subs-read c ((sub t ks) ∷ gs) l e R w h b =
-    let B = block 6 (closing (none gs) * 64) ks in
+    let B = blockOctets 6 (closing (none gs) * 64) ks in
     let S = marked (subsOctets gs) in
-    let whole : marked (block 6 64 ks ++ subsOctets gs) ≡ B ++ S = marked-subs ks gs (w .0) in
+    let whole : marked (blockOctets 6 64 ks ++ subsOctets gs) ≡ B ++ S = marked-subs ks gs (w .0) in
     let s = low-stands (none gs) ks l e (S ++ R) (w .0) (h ∙ rw (whole, append-assoc B S R)) in
     let ih = subs-read c gs l (behind 64 l e) R (w .1) (s .0 .rest) (s .1) in
     record {
@@ -85,7 +85,7 @@ group-read c [] l e R r w h b = unfold marked subsCodes in record { told = rw b;
 group-read c ((sub t ks) ∷ gs) l e R r w h b =
     let some = sub t ks ∷ gs in
     let ts = t ∷ subPlaces gs in
-    let B = block 6 64 ts in
+    let B = blockOctets 6 64 ts in
     let S = marked (subsOctets some) in
     let whole : marked (B ++ subsOctets some) ≡ B ++ S = marked-subs ts some r in
     let s = low-stands false ts l e (S ++ R) r (h ∙ rw (whole, append-assoc B S R)) in
@@ -106,10 +106,10 @@ unfolding GoodPars parCodes parsCodes parsBehind parOctets parsOctets parsForm p
 pars-read b [] l e R w h = record { told = refl; next = omega arith; fine = refl; tight = refl }
 pars-read b ((par s ns gs) ∷ ps) l e R w h =
     let c = b + s * ofS in
-    let B = block 6 (closing (none gs) * 64) ns in
+    let B = blockOctets 6 (closing (none gs) * 64) ns in
     let G = marked (lowerOctets gs) in
     let P = parsOctets ps in
-    let whole : marked (block 6 64 ns ++ lowerOctets gs) ≡ B ++ G = marked-lower ns gs (w .0) in
+    let whole : marked (blockOctets 6 64 ns ++ lowerOctets gs) ≡ B ++ G = marked-lower ns gs (w .0) in
     let a = low-stands (none gs) ns l e (G ++ (P ++ R)) (w .0) (h ∙ rw (whole, append-assoc (B ++ G) P R, append-assoc B G (P ++ R))) in
     let x = behind 64 l e in
     let g = group-read c gs l x (P ++ R) (w .1) (w .2) (a .0 .rest) (a .1) in
@@ -127,8 +127,8 @@ pub tree-read : (b : ℕ) (T : Tree) (l : List ℕ) (e : ℕ) (R : List ℕ) →
     → Reads (fieldCodes b l e) (treeCodes b T) (fieldBehind l e) e (treeOctets T) (fieldForm l e) (fieldMinimal l e)
 unfolding GoodTree treeCodes treeOctets fieldCodes restCodes fieldBehind restBehind fieldForm restForm fieldMinimal
 tree-read b (tree ns ps) l e R w h =
-    let N = block 7 128 ns in
-    let S = block 7 128 (parPlaces ps) in
+    let N = blockOctets 7 128 ns in
+    let S = blockOctets 7 128 (parPlaces ps) in
     let P = parsOctets ps in
     let a = top-stands ns l e (S ++ (P ++ R)) (w .0) (h ∙ rw (append-assoc N (S ++ P) R, append-assoc S P R)) in
     let x = behind 128 l e in

@@ -20,14 +20,15 @@ use Rattle.tree.specs.declared.Form.the-variants.{Fine, Left}
 use Rattle.tree.proofs.Forms.{is-fine, and-parts, field-fits}
 use Rattle.message.specs.Kinds.{known, hasFields, typeOf, revisionOf, firstOctet}
 use Rattle.message.specs.Nonstandard.{nsAnnounced, nsForm, tailForm}
-use Rattle.message.specs.Reader.{listRoom, standardAt, tailAt, messageForm, messageCodes, nsOf, Reading, accepted, refusedIf, judged, readMessage}
+use Rattle.message.specs.Reader.{listRoom, standardAt, tailAt, messageForm, messageCodes, nsOf, Reading, accepted, judged, readMessage}
+use Rattle.message.specs.Reader as reader
 use Rattle.message.proofs.Reading.{by-form, form-fields, codes-fields, form-one, codes-none}
 use Rattle.message.proofs.Accepted.{accepted-fine}
 use Rattle.message.proofs.Room.{codes-fit}
 use Rattle.meaning.specs.Meaning.{allShaped, ascending, allParented}
-use Rattle.meaning.specs.Written.{block, marked, run, from, written}
+use Rattle.meaning.specs.Written.{blockOctets, marked, run, from, written}
 use Rattle.meaning.specs.Minimal.{fieldMinimal, messageMinimal}
-use Rattle.meaning.specs.Writing.{Writing, sent, declinedIf, isEmpty, endsThere, nsAgrees, messageOctets, checkedWriting, listWriting, writeMessage, Writable}
+use Rattle.meaning.specs.Writing.{Writing, sent, refusedIf, isEmpty, endsThere, nsAgrees, messageOctets, checkedWriting, listWriting, writeMessage, Writable}
 use Rattle.meaning.proofs.Trees.{Sub, sub, Par, par, Tree, tree, subPlaces, parPlaces, subsOctets, lowerOctets, parOctets, parsOctets, treeOctets, Rising, GoodSubs, GoodPars, GoodTree}
 use Rattle.meaning.proofs.Blocks.{Ends, last, more, block-made}
 use Rattle.meaning.proofs.Growing.{Within, within-at, treeOf, written-tree}
@@ -39,13 +40,13 @@ use Rattle.meaning.proofs.Announcing.{announced-fields, tail-agrees}
 
 -- ---- what success tells
 
--- a test that declines did not hold
-past-declined : (t : Bool) (k : ℕ) (w : Writing) (os : List ℕ) → declinedIf t k w ≡ sent os → (t ≡ false) × (w ≡ sent os)
-past-declined true k w os h = (cc, cc)
-past-declined false k w os h = (refl, h)
+-- what is sent passed a test that did not hold
+sent-past : (t : Bool) (k : ℕ) (w : Writing) (os : List ℕ) → refusedIf t k w ≡ sent os → (t ≡ false) × (w ≡ sent os)
+sent-past true k w os h = (cc, cc)
+sent-past false k w os h = (refl, h)
 
 -- nor did one that refuses
-past-refused : (t : Bool) (k : ℕ) (r : Reading) → refusedIf t k r ≡ accepted → (t ≡ false) × (r ≡ accepted)
+past-refused : (t : Bool) (k : ℕ) (r : Reading) → reader.refusedIf t k r ≡ accepted → (t ≡ false) × (r ≡ accepted)
 past-refused true k r h = (cc, cc)
 past-refused false k r h = (refl, h)
 
@@ -53,15 +54,15 @@ past-refused false k r h = (refl, h)
 pub sent-writable : (kind revision : ℕ) (list ns : List ℕ) (room : ℕ) (os : List ℕ) → writeMessage kind revision list ns room ≡ sent os → Writable kind revision list ns room os
 unfolding writeMessage listWriting checkedWriting
 sent-writable kind revision list ns room os h =
-    let a = past-declined (ltb room mostOctets) 1 _ os h in
-    let b = past-declined (not (known kind)) 3 _ os (a .1) in
-    let c = past-declined (ltb 15 revision) 3 _ os (b .1) in
-    let d = past-declined (not (allShaped list)) 5 _ os (c .1) in
-    let e = past-declined (not (ascending list)) 6 _ os (d .1) in
-    let f = past-declined (not (allParented list list)) 7 _ os (e .1) in
-    let g = past-declined (not (endsThere kind list ns)) 8 _ os (f .1) in
-    let i = past-declined (not (nsAgrees list ns)) 9 _ os (g .1) in
-    let j = past-declined (ltb mostOctets (length (messageOctets kind revision list ns))) 10 _ os (i .1) in
+    let a = sent-past (ltb room mostOctets) 1 _ os h in
+    let b = sent-past (not (known kind)) 3 _ os (a .1) in
+    let c = sent-past (ltb 15 revision) 3 _ os (b .1) in
+    let d = sent-past (not (allShaped list)) 5 _ os (c .1) in
+    let e = sent-past (not (ascending list)) 6 _ os (d .1) in
+    let f = sent-past (not (allParented list list)) 7 _ os (e .1) in
+    let g = sent-past (not (endsThere kind list ns)) 8 _ os (f .1) in
+    let i = sent-past (not (nsAgrees list ns)) 9 _ os (g .1) in
+    let j = sent-past (ltb mostOctets (length (messageOctets kind revision list ns))) 10 _ os (i .1) in
     let same : messageOctets kind revision list ns ≡ os = cc in
     record {
       space = ltb-false room 64 (a .0);
@@ -250,8 +251,8 @@ eight-ends m k B h (last a e) = (omega arith, tt)
 eight-ends m k B h (more a C e r) = (omega arith, eight-ends m k C h r)
 
 -- a block that is written
-eight-block : (w : ℕ) (qs : List ℕ) → 0 < w → 2 ^ w + 1 * 2 ^ w ≤ 256 → Rising 0 qs → Eight (block w (1 * 2 ^ w) qs)
-eight-block w qs p h r = eight-ends (2 ^ w) 1 (block w (1 * 2 ^ w) qs) h (block-made w 1 p (omega arith) qs r .ends)
+eight-block : (w : ℕ) (qs : List ℕ) → 0 < w → 2 ^ w + 1 * 2 ^ w ≤ 256 → Rising 0 qs → Eight (blockOctets w (1 * 2 ^ w) qs)
+eight-block w qs p h r = eight-ends (2 ^ w) 1 (blockOctets w (1 * 2 ^ w) qs) h (block-made w 1 p (omega arith) qs r .ends)
 
 -- octets of which the last is marked by bit 8
 eight-marked : (l : List ℕ) → Eight l → Eight (marked l)
@@ -264,20 +265,20 @@ eight-marked (d ∷ (e ∷ l)) h = (h .0, eight-marked (e ∷ l) (h .1))
 eight-subs : (gs : List Sub) → GoodSubs gs → Eight (subsOctets gs)
 unfolding Eight GoodSubs subsOctets
 eight-subs [] g = tt
-eight-subs ((sub t ks) ∷ gs) g = eight-append (block 6 64 ks) (subsOctets gs) (eight-block 6 ks (omega arith) (omega arith) (g .0)) (eight-subs gs (g .1))
+eight-subs ((sub t ks) ∷ gs) g = eight-append (blockOctets 6 64 ks) (subsOctets gs) (eight-block 6 ks (omega arith) (omega arith) (g .0)) (eight-subs gs (g .1))
 
 -- those with SPar(2) before them
 eight-lower : (gs : List Sub) → Rising 0 (subPlaces gs) → GoodSubs gs → Eight (lowerOctets gs)
 unfolding Eight lowerOctets
 eight-lower [] r g = tt
-eight-lower (s ∷ gs) r g = eight-append (block 6 64 (subPlaces (s ∷ gs))) (subsOctets (s ∷ gs)) (eight-block 6 (subPlaces (s ∷ gs)) (omega arith) (omega arith) r) (eight-subs (s ∷ gs) g)
+eight-lower (s ∷ gs) r g = eight-append (blockOctets 6 64 (subPlaces (s ∷ gs))) (subsOctets (s ∷ gs)) (eight-block 6 (subPlaces (s ∷ gs)) (omega arith) (omega arith) r) (eight-subs (s ∷ gs) g)
 
 -- those of Par(2) blocks
 eight-pars : (ps : List Par) → GoodPars ps → Eight (parsOctets ps)
 unfolding Eight GoodPars parOctets parsOctets
 eight-pars [] g = tt
 eight-pars ((par s ns gs) ∷ ps) g =
-    let B = block 6 64 ns in
+    let B = blockOctets 6 64 ns in
     let G = lowerOctets gs in
     eight-append (marked (B ++ G)) (parsOctets ps) (eight-marked (B ++ G) (eight-append B G (eight-block 6 ns (omega arith) (omega arith) (g .0)) (eight-lower gs (g .1) (g .2)))) (eight-pars ps (g .3))
 
@@ -285,8 +286,8 @@ eight-pars ((par s ns gs) ∷ ps) g =
 eight-tree : (T : Tree) → GoodTree T → Eight (treeOctets T)
 unfolding GoodTree treeOctets
 eight-tree (tree ns ps) g =
-    let N = block 7 128 ns in
-    let S = block 7 128 (parPlaces ps) in
+    let N = blockOctets 7 128 ns in
+    let S = blockOctets 7 128 (parPlaces ps) in
     let P = parsOctets ps in
     eight-append N (S ++ P) (eight-block 7 ns (omega arith) (omega arith) (g .0)) (eight-append S P (eight-block 7 (parPlaces ps) (omega arith) (omega arith) (g .1)) (eight-pars ps (g .2)))
 

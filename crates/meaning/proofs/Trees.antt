@@ -4,7 +4,7 @@ use Prim.Native.Nat.{ℕ, _+_, _*_, _<_, _≤_}
 use mathlib.Core.List.{List, [], _∷_, _++_}
 use Rattle.tree.specs.Codes.{ofS}
 use Rattle.tree.proofs.Numbering.{shift}
-use Rattle.meaning.specs.Written.{block, marked}
+use Rattle.meaning.specs.Written.{blockOctets, marked}
 
 -- an SPar(2) with its NPar(3) positions; an SPar(1) with its NPar(2) positions and its SPar(2) nodes; a field
 pub data Sub : Type 0 where
@@ -42,21 +42,21 @@ treeCodes b (tree ns ps) = shift b ns ++ parsCodes b ps
 
 unfoldable pub subsOctets : List Sub → List ℕ
 subsOctets [] = []
-subsOctets ((sub t ks) ∷ gs) = block 6 64 ks ++ subsOctets gs
+subsOctets ((sub t ks) ∷ gs) = blockOctets 6 64 ks ++ subsOctets gs
 
 unfoldable pub lowerOctets : List Sub → List ℕ
 lowerOctets [] = []
-lowerOctets (g ∷ gs) = block 6 64 (subPlaces (g ∷ gs)) ++ subsOctets (g ∷ gs)
+lowerOctets (g ∷ gs) = blockOctets 6 64 (subPlaces (g ∷ gs)) ++ subsOctets (g ∷ gs)
 
 unfoldable pub parOctets : Par → List ℕ
-parOctets (par s ns gs) = marked (block 6 64 ns ++ lowerOctets gs)
+parOctets (par s ns gs) = marked (blockOctets 6 64 ns ++ lowerOctets gs)
 
 unfoldable pub parsOctets : List Par → List ℕ
 parsOctets [] = []
 parsOctets (p ∷ ps) = parOctets p ++ parsOctets ps
 
 unfoldable pub treeOctets : Tree → List ℕ
-treeOctets (tree ns ps) = block 7 128 ns ++ (block 7 128 (parPlaces ps) ++ parsOctets ps)
+treeOctets (tree ns ps) = blockOctets 7 128 ns ++ (blockOctets 7 128 (parPlaces ps) ++ parsOctets ps)
 
 -- ---- a tree as it should be: positions rise from 1, and are at most 511
 

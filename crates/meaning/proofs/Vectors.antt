@@ -10,7 +10,7 @@ use Rattle.message.specs.Nonstandard.{nsForm}
 use Rattle.meaning.specs.Meaning.{shaped, allShaped, ascendingFrom, hasParent, allParented}
 use Rattle.meaning.specs.Written.{blockFrom, run, from, positions, marked, subsWritten, lowerWritten, parWritten, parsWritten, restWritten, written}
 use Rattle.meaning.specs.Minimal.{fullAtEnd, tight, subsMinimal, groupMinimal, parsMinimal, fieldMinimal}
-use Rattle.meaning.specs.Writing.{declined, sent, nsAgrees, messageOctets, checkedWriting, listWriting, writeMessage}
+use Rattle.meaning.specs.Writing.{refused, sent, nsAgrees, messageOctets, checkedWriting, listWriting, writeMessage}
 
 -- the S field of the listing's example: 80 A1 02 D0 C0
 pub listed : written (fieldBase 2) (codeOf 2 1 0 0 ∷ codeOf 2 1 0 2 ∷ codeOf 2 1 0 11 ∷ codeOf 2 6 0 0 ∷ []) ≡ 0x80 ∷ 0xa1 ∷ 0x02 ∷ 0xd0 ∷ 0xc0 ∷ []
@@ -37,15 +37,15 @@ unfolding setBits blockNumbers blockEnd subsBehind groupBehind fullAtEnd tight s
 minimal = refl
 
 -- the parent of 2.1.0.2 is missing; t without s; an ACK with a list
-pub no-parent : writeMessage 2 2 (codeOf 2 1 0 2 ∷ []) [] 64 ≡ declined 7
+pub no-parent : writeMessage 2 2 (codeOf 2 1 0 2 ∷ []) [] 64 ≡ refused 7
 unfolding shaped allShaped ascendingFrom hasParent allParented isIn listWriting writeMessage
 no-parent = refl
 
-pub bad-shape : writeMessage 2 2 (codeOf 2 0 1 0 ∷ []) [] 64 ≡ declined 5
+pub bad-shape : writeMessage 2 2 (codeOf 2 0 1 0 ∷ []) [] 64 ≡ refused 5
 unfolding shaped allShaped isIn listWriting writeMessage
 bad-shape = refl
 
-pub ack-with-list : writeMessage 4 2 (codeOf 1 0 0 1 ∷ []) [] 64 ≡ declined 8
+pub ack-with-list : writeMessage 4 2 (codeOf 1 0 0 1 ∷ []) [] 64 ≡ refused 8
 unfolding shaped allShaped ascendingFrom hasParent allParented isIn checkedWriting listWriting writeMessage
 ack-with-list = refl
 

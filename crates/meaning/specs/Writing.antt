@@ -19,12 +19,12 @@ use Rattle.meaning.specs.Written.{run, from, written}
 
 -- a refusal's number, or the octets of the message
 pub data Writing : Type 0 where
-  declined : ℕ → Writing
+  refused : ℕ → Writing
   sent : List ℕ → Writing
 
-abbrev pub declinedIf : Bool → ℕ → Writing → Writing
-declinedIf true k w = declined k
-declinedIf false k w = w
+abbrev pub refusedIf : Bool → ℕ → Writing → Writing
+refusedIf true k w = refused k
+refusedIf false k w = w
 
 abbrev pub isEmpty : List ℕ → Bool
 isEmpty [] = true
@@ -51,29 +51,29 @@ messageOctets kind revision list ns =
 
 -- 10
 abbrev pub unlessLong : List ℕ → Writing
-unlessLong os = declinedIf (ltb mostOctets (length os)) 10 (sent os)
+unlessLong os = refusedIf (ltb mostOctets (length os)) 10 (sent os)
 
 -- 8, 9, 10
 unfoldable pub checkedWriting : ℕ → ℕ → List ℕ → List ℕ → Writing
 checkedWriting kind revision list ns =
-    declinedIf (not (endsThere kind list ns)) 8
-    (declinedIf (not (nsAgrees list ns)) 9
+    refusedIf (not (endsThere kind list ns)) 8
+    (refusedIf (not (nsAgrees list ns)) 9
     (unlessLong (messageOctets kind revision list ns)))
 
 -- 5, 6, 7, each over the whole list, and then the others
 unfoldable pub listWriting : ℕ → ℕ → List ℕ → List ℕ → Writing
 listWriting kind revision list ns =
-    declinedIf (not (allShaped list)) 5
-    (declinedIf (not (ascending list)) 6
-    (declinedIf (not (allParented list list)) 7
+    refusedIf (not (allShaped list)) 5
+    (refusedIf (not (ascending list)) 6
+    (refusedIf (not (allParented list list)) 7
     (checkedWriting kind revision list ns)))
 
 -- 1, 3, and then the others
 unfoldable pub writeMessage : ℕ → ℕ → List ℕ → List ℕ → ℕ → Writing
 writeMessage kind revision list ns room =
-    declinedIf (ltb room mostOctets) 1
-    (declinedIf (not (known kind)) 3
-    (declinedIf (ltb 15 revision) 3
+    refusedIf (ltb room mostOctets) 1
+    (refusedIf (not (known kind)) 3
+    (refusedIf (ltb 15 revision) 3
     (listWriting kind revision list ns)))
 
 -- all that the writer asks for, and the octets that it gives
@@ -96,10 +96,10 @@ pub record Reply : Type 0 where
 
 -- what a writing tells
 abbrev pub writeReply : Writing → Reply
-writeReply (declined k) = record { no = k; count = 0 }
+writeReply (refused k) = record { no = k; count = 0 }
 writeReply (sent os) = record { no = 0; count = length os }
 
 -- the output: a refusal writes nothing, success only the message's octets
 abbrev pub writeLeaves : Writing → List ℕ → List ℕ
-writeLeaves (declined k) out = out
+writeLeaves (refused k) out = out
 writeLeaves (sent os) out = put os out

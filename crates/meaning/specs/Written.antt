@@ -30,8 +30,8 @@ blockFrom w m p a (q ∷ qs) =
     skipped (passed w p q) a
     ++ blockFrom w m (p + passed w p q * w) (carried (passed w p q) a + 2 ^ ((q - p - 1) % w)) qs
 
-abbrev pub block : ℕ → ℕ → List ℕ → List ℕ
-block w m qs = blockFrom w m 0 0 qs
+abbrev pub blockOctets : ℕ → ℕ → List ℕ → List ℕ
+blockOctets w m qs = blockFrom w m 0 0 qs
 
 -- ---- a field, from its ascending codes
 
@@ -59,16 +59,16 @@ marked (d ∷ (e ∷ ds)) = d ∷ marked (e ∷ ds)
 unfoldable pub subsWritten : ℕ → List ℕ → List ℕ
 subsWritten zero l = []
 subsWritten (suc k) [] = []
-subsWritten (suc k) (t ∷ l) = block 6 64 (positions 1 t (run (t + ofT) l)) ++ subsWritten k (from (t + ofT) l)
+subsWritten (suc k) (t ∷ l) = blockOctets 6 64 (positions 1 t (run (t + ofT) l)) ++ subsWritten k (from (t + ofT) l)
 
 -- SPar(2) and what it announces, of the codes under c from the first SPar(2) on
 unfoldable pub lowerWritten : ℕ → List ℕ → List ℕ
 lowerWritten c [] = []
-lowerWritten c (t ∷ l) = block 6 64 (positions ofT c (t ∷ l)) ++ subsWritten (length (t ∷ l)) (t ∷ l)
+lowerWritten c (t ∷ l) = blockOctets 6 64 (positions ofT c (t ∷ l)) ++ subsWritten (length (t ∷ l)) (t ∷ l)
 
 -- the Par(2) block of the codes under c: bit 8 stands in its last octet
 unfoldable pub parWritten : ℕ → List ℕ → List ℕ
-parWritten c l = marked (block 6 64 (positions 1 c (run (c + ofT) l)) ++ lowerWritten c (from (c + ofT) l))
+parWritten c l = marked (blockOctets 6 64 (positions 1 c (run (c + ofT) l)) ++ lowerWritten c (from (c + ofT) l))
 
 -- the Par(2) blocks: a list begins with the code of an SPar(1), then come those under it, then the next SPar(1)
 unfoldable pub parsWritten : ℕ → List ℕ → List ℕ
@@ -78,8 +78,8 @@ parsWritten (suc k) (c ∷ l) = parWritten c (run (c + ofS) l) ++ parsWritten k 
 
 -- SPar(1) and what it announces, of the codes above b from the first SPar(1) on
 unfoldable pub restWritten : ℕ → List ℕ → List ℕ
-restWritten b l = block 7 128 (positions ofS b l) ++ parsWritten (length l) l
+restWritten b l = blockOctets 7 128 (positions ofS b l) ++ parsWritten (length l) l
 
 -- the field of the codes above b
 unfoldable pub written : ℕ → List ℕ → List ℕ
-written b l = block 7 128 (positions 1 b (run (b + ofT) l)) ++ restWritten b (from (b + ofT) l)
+written b l = blockOctets 7 128 (positions 1 b (run (b + ofT) l)) ++ restWritten b (from (b + ofT) l)

@@ -92,7 +92,7 @@ pub extern "C" fn kamvezhor_measure_mode(
 pub extern "C" fn kamvezhor_measure_read(message: &[u8], list: &mut [u32]) -> u64 {
     match message::read_message(message, list) {
         MessageRead::Read(m) => m.count as u64,
-        MessageRead::SmallList => REFUSED + 1,
+        MessageRead::BadLent => REFUSED + 1,
         MessageRead::BadSize => REFUSED + 2,
         MessageRead::UnknownType => REFUSED + 3,
         MessageRead::Malformed => REFUSED + 4,
@@ -110,7 +110,7 @@ pub extern "C" fn kamvezhor_measure_write(
 ) -> u64 {
     match writer::write_message(kind, revision, list, ns, out) {
         MessageWritten::Octets(n) => n as u64,
-        MessageWritten::SmallOutput => REFUSED + 1,
+        MessageWritten::BadLent => REFUSED + 1,
         MessageWritten::BadType => REFUSED + 3,
         MessageWritten::BadCode => REFUSED + 5,
         MessageWritten::NotAscending => REFUSED + 6,
@@ -126,7 +126,7 @@ pub extern "C" fn kamvezhor_measure_write(
 pub extern "C" fn kamvezhor_measure_strike(message: &[u8], out: &mut [u8]) -> u64 {
     match strike::strike_message(message, out) {
         Struck::Octets(n) => n as u64,
-        Struck::SmallOutput => REFUSED + 1,
+        Struck::BadLent => REFUSED + 1,
         Struck::BadSize => REFUSED + 2,
         Struck::UnknownType => REFUSED + 3,
         Struck::Malformed => REFUSED + 4,

@@ -19,7 +19,7 @@ use Rattle.message.specs.Nonstandard.{nsAnnounced}
 use Rattle.tree.specs.Fields.{mostOctets}
 use Rattle.message.specs.Reader.{listRoom, standardAt, tailAt, messageForm, messageCodes, hasNs, Reading, refused, accepted, refusedIf, judged, readMessage, Reply, readTold, readReply, codesRead, Reads, spanTold, nsTold}
 use Rattle.message.specs.declared.MessageRead.{MessageRead}
-use Rattle.message.specs.declared.MessageRead.the-variants.{Read, SmallList, BadSize, UnknownType, Malformed}
+use Rattle.message.specs.declared.MessageRead.the-variants.{Read, BadLent, BadSize, UnknownType, Malformed}
 use Rattle.message.proofs.Fields.{parts-fit}
 use Rattle.message.proofs.Reading.{form-fields}
 use Rattle.message.proofs.Room.{codes-fit}
@@ -114,7 +114,7 @@ success-writes l list₀ r list₁ a h = rw (success-accepted l list₀ r list�
 -- an answer tells in its reply where its NS lies
 told-span : (r : MessageRead) → (spanTold r .at ≡ readTold r .nsAt) × (spanTold r .length ≡ readTold r .nsLength)
 told-span (Read m) = (refl, refl)
-told-span SmallList = (refl, refl)
+told-span BadLent = (refl, refl)
 told-span BadSize = (refl, refl)
 told-span UnknownType = (refl, refl)
 told-span Malformed = (refl, refl)

@@ -17,20 +17,20 @@ use Rattle.message.specs.declared.MessageCheck.{MessageCheck}
 use Rattle.message.specs.declared.MessageCheck.the-variants.{Parted}
 use Rattle.message.specs.declared.MessageCheck.the-variants as check
 use Rattle.message.specs.declared.MessageRead.{MessageRead}
-use Rattle.message.specs.declared.MessageRead.the-variants.{Read, SmallList, BadSize, UnknownType, Malformed}
+use Rattle.message.specs.declared.MessageRead.the-variants.{Read, BadLent, BadSize, UnknownType, Malformed}
 
 -- the answer that a reply tells
 abbrev back : Reply → MessageRead
 back p =
     pick (eqb (p .no) 0) (Read (record { kind = p .kind; revision = p .revision; count = p .count; ns = record { at = p .nsAt; length = p .nsLength } }))
-    (pick (eqb (p .no) 1) SmallList
+    (pick (eqb (p .no) 1) BadLent
     (pick (eqb (p .no) 2) BadSize
     (pick (eqb (p .no) 3) UnknownType Malformed)))
 
 -- each answer is told by its reply
 back-told : (r : MessageRead) → back (readTold r) ≡ r
 back-told (Read m) = refl
-back-told SmallList = refl
+back-told BadLent = refl
 back-told BadSize = refl
 back-told UnknownType = refl
 back-told Malformed = refl
@@ -87,7 +87,7 @@ refusal-ns-empty r l h = ns-none r l (go r h)
   where
     go : (r : MessageRead) → (readTold r .no ≡ 0 → ⊥) → spanTold r .length ≡ 0
     go (Read m) h = absurd (h refl)
-    go SmallList h = refl
+    go BadLent h = refl
     go BadSize h = refl
     go UnknownType h = refl
     go Malformed h = refl

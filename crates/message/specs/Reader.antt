@@ -18,7 +18,7 @@ use Rattle.message.specs.Nonstandard.{nsAnnounced, tailForm}
 use Rattle.message.specs.declared.Message.{Message}
 use Rattle.message.specs.declared.Span.{Span}
 use Rattle.message.specs.declared.MessageRead.{MessageRead}
-use Rattle.message.specs.declared.MessageRead.the-variants.{Read, SmallList, BadSize, UnknownType, Malformed}
+use Rattle.message.specs.declared.MessageRead.the-variants.{Read, BadLent, BadSize, UnknownType, Malformed}
 
 abbrev pub listRoom : ℕ
 listRoom = 448
@@ -95,7 +95,7 @@ refusal k = record { no = k; kind = 0; revision = 0; count = 0; nsAt = 0; nsLeng
 -- each answer's number and values
 abbrev pub readTold : MessageRead → Reply
 readTold (Read m) = record { no = 0; kind = m .kind; revision = m .revision; count = m .count; nsAt = m .ns .at; nsLength = m .ns .length }
-readTold SmallList = refusal 1
+readTold BadLent = refusal 1
 readTold BadSize = refusal 2
 readTold UnknownType = refusal 3
 readTold Malformed = refusal 4
@@ -127,7 +127,7 @@ pub record ReadsOctets (l list₀ : List ℕ) (r : MessageRead) (list₁ : List 
 -- where an answer says that NS lies
 abbrev pub spanTold : MessageRead → Span
 spanTold (Read m) = m .ns
-spanTold SmallList = record { at = 0; length = 0 }
+spanTold BadLent = record { at = 0; length = 0 }
 spanTold BadSize = record { at = 0; length = 0 }
 spanTold UnknownType = record { at = 0; length = 0 }
 spanTold Malformed = record { at = 0; length = 0 }

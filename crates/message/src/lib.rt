@@ -55,10 +55,10 @@ pub struct Message {
     pub ns: Span,
 }
 
-// The message reader's answer.
+// The message reader's answer. BadLent: the list has room for fewer than 448 numbers.
 pub enum MessageRead {
     Read(Message),
-    SmallList,
+    BadLent,
     BadSize,
     UnknownType,
     Malformed,
@@ -236,7 +236,7 @@ fn read_both(s: &[u8], room: usize, list: &mut [u32], octets: &mut [u8]) -> Mess
     ensures { λ r. ⌜ ReadsBoth (now (s .entry)) room (now (list .entry)) (now (octets .entry)) r (now (list .exit)) (now (octets .exit)) ⌝ }
 {
     if room < LIST_ROOM {
-        return MessageRead::SmallList;
+        return MessageRead::BadLent;
     }
     match check_message(s) {
         MessageCheck::Parted(parts) => read_parts(s, parts, list, octets),
@@ -270,7 +270,7 @@ fn told_span(answer: MessageRead) -> Span
 {
     match answer {
         MessageRead::Read(m) => m.ns,
-        MessageRead::SmallList => Span { at: 0, length: 0 },
+        MessageRead::BadLent => Span { at: 0, length: 0 },
         MessageRead::BadSize => Span { at: 0, length: 0 },
         MessageRead::UnknownType => Span { at: 0, length: 0 },
         MessageRead::Malformed => Span { at: 0, length: 0 },

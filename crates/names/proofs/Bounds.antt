@@ -1,4 +1,4 @@
--- What is kept, where not all is, stands in a printed row: its position is at most their number.
+-- What is kept, where not all is, stands at a printed position: it is at most their number.
 -- Assumes nothing.
 use Prim.Native.Nat.{ℕ, zero, suc, _<_, _≤_}
 use mathlib.Core.Bool.{Bool, true, false}
@@ -9,37 +9,37 @@ use borrow.Author.Tests.{ltb-true, ltb-false}
 use lib.Dec.{ltb}
 use lib.ListN.{length}
 use Rattle.octets.specs.Bits.{num}
-use Rattle.names.specs.Tables.{Row, reserved, nparBlocks, sparBlocks}
-use Rattle.names.specs.Named.{rowsUnder, rowAt, keepsRow}
+use Rattle.names.specs.Tables.{Printed, reserved, nparBlocks, sparBlocks}
+use Rattle.names.specs.Named.{printedUnder, printedAt, keepsPrinted}
 use Rattle.names.specs.Masks.{placesOf, nparPlaces, sparPlaces}
 use Rattle.names.specs.Inner.{keptPlace}
 use Rattle.names.specs.declared.Keep.{Keep}
 use Rattle.names.specs.declared.Keep.the-variants.{Standard}
-use Rattle.names.proofs.Rows.{kept-place}
+use Rattle.names.proofs.Printings.{kept-place}
 
--- behind the printed rows all are reserved
-pub row-behind : (rows : List Row) (q : ℕ) → length rows < q → rowAt rows q ≡ reserved
-unfolding rowAt
-row-behind [] q h = refl
-row-behind (r ∷ rows) zero h = refl
-row-behind (r ∷ rows) (suc zero) h = absurd (omega arith)
-row-behind (r ∷ rows) (suc (suc q)) h = row-behind rows (suc q) (omega arith)
+-- behind the printed positions all are reserved
+pub printed-behind : (printed : List Printed) (q : ℕ) → length printed < q → printedAt printed q ≡ reserved
+unfolding printedAt
+printed-behind [] q h = refl
+printed-behind (r ∷ printed) zero h = refl
+printed-behind (r ∷ printed) (suc zero) h = absurd (omega arith)
+printed-behind (r ∷ printed) (suc (suc q)) h = printed-behind printed (suc q) (omega arith)
 
 -- so a position is a printed one where it is kept and reserved ones are not
-pub place-printed : (k : Keep) (rows : List Row) (q : ℕ) → keepsRow k reserved ≡ false → 0 < q → keptPlace (placesOf k rows) q ≡ true → q ≤ length rows
-place-printed k rows q r p e = go (ltb (length rows) q) refl
+pub place-printed : (k : Keep) (printed : List Printed) (q : ℕ) → keepsPrinted k reserved ≡ false → 0 < q → keptPlace (placesOf k printed) q ≡ true → q ≤ length printed
+place-printed k printed q r p e = go (ltb (length printed) q) refl
   where
-    go : (t : Bool) → ltb (length rows) q ≡ t → q ≤ length rows
+    go : (t : Bool) → ltb (length printed) q ≡ t → q ≤ length printed
     go true h =
-        let none = ap (keepsRow k) (row-behind rows q (ltb-true (length rows) q h)) ∙ r in
-        absurd (omega (arith, ap num (sym e ∙ kept-place k rows q p ∙ none)))
-    go false h = ltb-false (length rows) q h
+        let none = ap (keepsPrinted k) (printed-behind printed q (ltb-true (length printed) q h)) ∙ r in
+        absurd (omega (arith, ap num (sym e ∙ kept-place k printed q p ∙ none)))
+    go false h = ltb-false (length printed) q h
 
 -- of the standard NPar and SPar positions under a code
-pub npar-printed : (c q : ℕ) → 0 < q → keptPlace (nparPlaces Standard c) q ≡ true → q ≤ length (rowsUnder c nparBlocks)
+pub npar-printed : (c q : ℕ) → 0 < q → keptPlace (nparPlaces Standard c) q ≡ true → q ≤ length (printedUnder c nparBlocks)
 unfolding nparPlaces
-npar-printed c q p e = place-printed Standard (rowsUnder c nparBlocks) q refl p e
+npar-printed c q p e = place-printed Standard (printedUnder c nparBlocks) q refl p e
 
-pub spar-printed : (c q : ℕ) → 0 < q → keptPlace (sparPlaces Standard c) q ≡ true → q ≤ length (rowsUnder c sparBlocks)
+pub spar-printed : (c q : ℕ) → 0 < q → keptPlace (sparPlaces Standard c) q ≡ true → q ≤ length (printedUnder c sparBlocks)
 unfolding sparPlaces
-spar-printed c q p e = place-printed Standard (rowsUnder c sparBlocks) q refl p e
+spar-printed c q p e = place-printed Standard (printedUnder c sparBlocks) q refl p e

@@ -1,7 +1,7 @@
 pub mod Sieving
 pub mod Arms
 pub mod Blocks
-pub mod Rows
+pub mod Printings
 pub mod Strictness
 pub mod Parentage
 pub mod Bounds

@@ -3,31 +3,31 @@
 use Prim.Native.Nat.{ℕ}
 use mathlib.Core.Bool.{true}
 use mathlib.Core.Path.{_≡_, refl}
-use Rattle.names.specs.Tables.{Row, named, nonStandard, reserved}
-use Rattle.names.specs.Named.{rowOf, keepsRow, keeps}
+use Rattle.names.specs.Tables.{Printed, named, nonStandard, reserved}
+use Rattle.names.specs.Named.{printedOf, keepsPrinted, keeps}
 use Rattle.names.specs.declared.Keep.{Keep}
 use Rattle.names.specs.declared.Keep.the-variants.{All, Named, Standard}
 
--- of a row
-pub row-named : (r : Row) → keepsRow Standard r ≡ true → keepsRow Named r ≡ true
-row-named named e = refl
-row-named nonStandard e = refl
-row-named reserved e = e
+-- of a printed position
+pub printed-named : (r : Printed) → keepsPrinted Standard r ≡ true → keepsPrinted Named r ≡ true
+printed-named named e = refl
+printed-named nonStandard e = refl
+printed-named reserved e = e
 
-pub row-all : (r : Row) → keepsRow Named r ≡ true → keepsRow All r ≡ true
-row-all r e = refl
+pub printed-all : (r : Printed) → keepsPrinted Named r ≡ true → keepsPrinted All r ≡ true
+printed-all r e = refl
 
-pub row-standard : (k : Keep) (r : Row) → keepsRow Standard r ≡ true → keepsRow k r ≡ true
-row-standard All r e = row-all r (row-named r e)
-row-standard Named r e = row-named r e
-row-standard Standard r e = e
+pub printed-standard : (k : Keep) (r : Printed) → keepsPrinted Standard r ≡ true → keepsPrinted k r ≡ true
+printed-standard All r e = printed-all r (printed-named r e)
+printed-standard Named r e = printed-named r e
+printed-standard Standard r e = e
 
 -- of a code
 pub keeps-named : (c : ℕ) → keeps Standard c ≡ true → keeps Named c ≡ true
-keeps-named c e = row-named (rowOf c) e
+keeps-named c e = printed-named (printedOf c) e
 
 pub keeps-all : (c : ℕ) → keeps Named c ≡ true → keeps All c ≡ true
-keeps-all c e = row-all (rowOf c) e
+keeps-all c e = printed-all (printedOf c) e
 
 pub keeps-standard : (k : Keep) (c : ℕ) → keeps Standard c ≡ true → keeps k c ≡ true
-keeps-standard k c e = row-standard k (rowOf c) e
+keeps-standard k c e = printed-standard k (printedOf c) e

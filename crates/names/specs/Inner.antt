@@ -1,13 +1,13 @@
--- Inner: the non-standard rows, and one position of those that are kept.
+-- Inner: the non-standard positions, and one position of those that are kept.
 -- Assumes nothing.
 use Prim.Native.Nat.{ℕ, _-_, _/_, _^_}
 use mathlib.Core.Bool.{Bool, true, false}
 use Rattle.octets.specs.Bits.{odd}
 use Rattle.octets.specs.Places.{pick}
-use Rattle.names.specs.Tables.{Row, named, nonStandard, reserved}
+use Rattle.names.specs.Tables.{Printed, named, nonStandard, reserved}
 use Rattle.names.specs.declared.Places.{Places}
 
-abbrev pub isNonStandard : Row → Bool
+abbrev pub isNonStandard : Printed → Bool
 isNonStandard named = false
 isNonStandard nonStandard = true
 isNonStandard reserved = false

@@ -1,5 +1,5 @@
--- To be believed: which parameters are named (RULES, Striking), and which of those are standard ones: the row of a code in
--- the tables.
+-- To be believed: which parameters are named (RULES, Striking), and which of those are standard ones: what the tables
+-- print of a code.
 -- Assumes nothing.
 use Prim.Native.Nat.{ℕ, zero, suc, _-_, _%_}
 use mathlib.Core.Bool.{Bool, true, false}
@@ -7,57 +7,57 @@ use mathlib.Core.List.{List, [], _∷_}
 use lib.Dec.{ltb, eqb}
 use Rattle.octets.specs.Places.{pick}
 use Rattle.tree.specs.Codes.{ofT, ofS, ofF, sOf, tOf, nOf}
-use Rattle.names.specs.Tables.{Row, named, nonStandard, reserved, Block, nparBlocks, sparBlocks}
+use Rattle.names.specs.Tables.{Printed, named, nonStandard, reserved, PrintedBlock, nparBlocks, sparBlocks}
 use Rattle.names.specs.declared.Keep.{Keep}
 use Rattle.names.specs.declared.Keep.the-variants.{All, Named, Standard}
 
--- the rows of the block that stands under a code; where no table is printed, none
-unfoldable pub rowsUnder : ℕ → List Block → List Row
-rowsUnder c [] = []
-rowsUnder c (b ∷ bs) = pick (eqb (b .under) c) (b .rows) (rowsUnder c bs)
+-- what is printed of the block that stands under a code; where no table is, nothing
+unfoldable pub printedUnder : ℕ → List PrintedBlock → List Printed
+printedUnder c [] = []
+printedUnder c (b ∷ bs) = pick (eqb (b .under) c) (b .printed) (printedUnder c bs)
 
--- the row of a position, counted from 1; behind the printed ones all are reserved
-unfoldable pub rowAt : List Row → ℕ → Row
-rowAt [] q = reserved
-rowAt (r ∷ rows) zero = reserved
-rowAt (r ∷ rows) (suc zero) = r
-rowAt (r ∷ rows) (suc (suc q)) = rowAt rows (suc q)
+-- what is printed of a position, counted from 1; behind the printed ones all are reserved
+unfoldable pub printedAt : List Printed → ℕ → Printed
+printedAt [] q = reserved
+printedAt (p ∷ ps) zero = reserved
+printedAt (p ∷ ps) (suc zero) = p
+printedAt (p ∷ ps) (suc (suc q)) = printedAt ps (suc q)
 
-abbrev pub nparRow : ℕ → ℕ → Row
-nparRow c q = rowAt (rowsUnder c nparBlocks) q
+abbrev pub nparPrinted : ℕ → ℕ → Printed
+nparPrinted c q = printedAt (printedUnder c nparBlocks) q
 
-abbrev pub sparRow : ℕ → ℕ → Row
-sparRow c q = rowAt (rowsUnder c sparBlocks) q
+abbrev pub sparPrinted : ℕ → ℕ → Printed
+sparPrinted c q = printedAt (printedUnder c sparBlocks) q
 
--- the row of a code: of an NPar with n, else of an SPar(2) with t, else of an SPar(1)
-unfoldable pub rowOf : ℕ → Row
-rowOf c =
-    pick (ltb 0 (nOf c)) (nparRow (c - c % ofT) (nOf c))
-    (pick (ltb 0 (tOf c)) (sparRow (c - c % ofS) (tOf c))
-    (sparRow (c - c % ofF) (sOf c)))
+-- what is printed of a code: of an NPar with n, else of an SPar(2) with t, else of an SPar(1)
+unfoldable pub printedOf : ℕ → Printed
+printedOf c =
+    pick (ltb 0 (nOf c)) (nparPrinted (c - c % ofT) (nOf c))
+    (pick (ltb 0 (tOf c)) (sparPrinted (c - c % ofS) (tOf c))
+    (sparPrinted (c - c % ofF) (sOf c)))
 
-abbrev pub isNamed : Row → Bool
+abbrev pub isNamed : Printed → Bool
 isNamed named = true
 isNamed nonStandard = true
 isNamed reserved = false
 
-abbrev pub isStandard : Row → Bool
+abbrev pub isStandard : Printed → Bool
 isStandard named = true
 isStandard nonStandard = false
 isStandard reserved = false
 
 -- printed and not reserved; and of these, no non-standard bit
 abbrev pub namedCode : ℕ → Bool
-namedCode c = isNamed (rowOf c)
+namedCode c = isNamed (printedOf c)
 
 abbrev pub standardCode : ℕ → Bool
-standardCode c = isStandard (rowOf c)
+standardCode c = isStandard (printedOf c)
 
 -- what is kept of a field when it is rewritten: all, the named, or the named and standard
-abbrev pub keepsRow : Keep → Row → Bool
-keepsRow All r = true
-keepsRow Named r = isNamed r
-keepsRow Standard r = isStandard r
+abbrev pub keepsPrinted : Keep → Printed → Bool
+keepsPrinted All p = true
+keepsPrinted Named p = isNamed p
+keepsPrinted Standard p = isStandard p
 
 abbrev pub keeps : Keep → ℕ → Bool
-keeps k c = keepsRow k (rowOf c)
+keeps k c = keepsPrinted k (printedOf c)

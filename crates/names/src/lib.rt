@@ -4,7 +4,7 @@ ghost use mathlib.Core.Path.{_≡_};
 ghost use Prim.Native.Nat.{_+_, _*_};
 ghost use Rattle.tree.specs.Codes.{codeOf};
 ghost use Rattle.names.specs.Tables.{nparBlocks, sparBlocks};
-ghost use Rattle.names.specs.Named.{rowsUnder, isNamed};
+ghost use Rattle.names.specs.Named.{printedUnder, isNamed};
 ghost use Rattle.names.specs.Masks.{maskOf};
 ghost use Rattle.names.specs.Inner.{isNonStandard};
 ghost use Rattle.names.specs.Contracts.{TellsNparPlaces, TellsSparPlaces};
@@ -33,7 +33,7 @@ pub struct Places {
 
 // The named NPar(2) positions under an SPar(1) of S, NPar(1) for 0: Tables 6-1 and 6-3 to 6-10.
 fn standard_names(s: u32) -> u32
-    ensures { λ r. ⌜ r ≡ maskOf isNamed (rowsUnder (codeOf 2 s 0 0) nparBlocks) ⌝ }
+    ensures { λ r. ⌜ r ≡ maskOf isNamed (printedUnder (codeOf 2 s 0 0) nparBlocks) ⌝ }
 {
     match s {
         0 => 0x40,
@@ -52,7 +52,7 @@ fn standard_names(s: u32) -> u32
 
 // The named NPar positions of the block that stands under a code.
 fn npar_names(under: u32) -> u32
-    ensures { λ r. ⌜ r ≡ maskOf isNamed (rowsUnder under nparBlocks) ⌝ }
+    ensures { λ r. ⌜ r ≡ maskOf isNamed (printedUnder under nparBlocks) ⌝ }
 {
     let group = under / OF_S;
     let below = under % OF_S;
@@ -82,7 +82,7 @@ fn npar_names(under: u32) -> u32
 
 // The non-standard ones among them: bit 7 at level 1, bit 6 below, of T.30 facsimile also bit 12.
 fn non_standards(under: u32) -> u32
-    ensures { λ r. ⌜ r ≡ maskOf isNonStandard (rowsUnder under nparBlocks) ⌝ }
+    ensures { λ r. ⌜ r ≡ maskOf isNonStandard (printedUnder under nparBlocks) ⌝ }
 {
     let group = under / OF_S;
     if under % OF_S != 0 {
@@ -113,7 +113,7 @@ fn non_standards(under: u32) -> u32
 
 // The named SPar positions of the block that stands under a code; none of them is non-standard.
 fn spar_names(under: u32) -> u32
-    ensures { λ r. ⌜ r ≡ maskOf isNamed (rowsUnder under sparBlocks) ⌝ }
+    ensures { λ r. ⌜ r ≡ maskOf isNamed (printedUnder under sparBlocks) ⌝ }
 {
     if under == IDENTIFICATION {
         return 0x01;

@@ -29,7 +29,7 @@ pub(crate) fn frame_reader(request: &[u8], reply: &mut [u8]) -> usize {
 fn answer_of_reader(read: FrameRead) -> Answer {
     match read {
         FrameRead::Octets(count) => Answer { no: 0, count },
-        FrameRead::NoRoom => Answer { no: 1, count: 0 },
+        FrameRead::BadLent => Answer { no: 1, count: 0 },
         FrameRead::BadFlags => Answer { no: 2, count: 0 },
         FrameRead::SplitOctet => Answer { no: 3, count: 0 },
         FrameRead::TooShort => Answer { no: 4, count: 0 },
@@ -61,7 +61,7 @@ pub(crate) fn frame_writer(request: &[u8], reply: &mut [u8]) -> usize {
 fn answer_of_writer(written: FrameWritten) -> Answer {
     match written {
         FrameWritten::Bits(count) => Answer { no: 0, count },
-        FrameWritten::SmallOutput => Answer { no: 1, count: 0 },
+        FrameWritten::BadLent => Answer { no: 1, count: 0 },
         FrameWritten::BadLength => Answer { no: 7, count: 0 },
         FrameWritten::BadFlagCount => Answer { no: 8, count: 0 },
     }

@@ -43,7 +43,7 @@ fn put_reading(reply: &mut [u8], read: MessageRead) -> usize {
             let length_at = wire::put_number(reply, ns_at, U16, ns.at as u64);
             wire::put_number(reply, length_at, U16, ns.length as u64)
         }
-        MessageRead::SmallList => put_reading_refusal(reply, 1),
+        MessageRead::BadLent => put_reading_refusal(reply, 1),
         MessageRead::BadSize => put_reading_refusal(reply, 2),
         MessageRead::UnknownType => put_reading_refusal(reply, 3),
         MessageRead::Malformed => put_reading_refusal(reply, 4),
@@ -128,7 +128,7 @@ pub(crate) fn message_writer(request: &[u8], reply: &mut [u8]) -> usize {
 fn answer_of_writer(written: MessageWritten) -> Answer {
     match written {
         MessageWritten::Octets(count) => Answer { no: 0, count },
-        MessageWritten::SmallOutput => Answer { no: 1, count: 0 },
+        MessageWritten::BadLent => Answer { no: 1, count: 0 },
         MessageWritten::BadType => Answer { no: 3, count: 0 },
         MessageWritten::BadCode => Answer { no: 5, count: 0 },
         MessageWritten::NotAscending => Answer { no: 6, count: 0 },
@@ -158,7 +158,7 @@ pub(crate) fn striking(request: &[u8], reply: &mut [u8]) -> usize {
 fn answer_of_striking(struck: Struck) -> Answer {
     match struck {
         Struck::Octets(count) => Answer { no: 0, count },
-        Struck::SmallOutput => Answer { no: 1, count: 0 },
+        Struck::BadLent => Answer { no: 1, count: 0 },
         Struck::BadSize => Answer { no: 2, count: 0 },
         Struck::UnknownType => Answer { no: 3, count: 0 },
         Struck::Malformed => Answer { no: 4, count: 0 },

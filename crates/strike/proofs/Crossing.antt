@@ -15,7 +15,7 @@ use Rattle.tree.specs.Fields.{baseOf}
 use Rattle.tree.specs.declared.Field.{Field}
 use Rattle.tree.specs.declared.Field.the-variants.{Identification, Standard}
 use Rattle.tree.specs.declared.Form.the-variants.{Fine}
-use Rattle.meaning.specs.Written.{block, marked, written}
+use Rattle.meaning.specs.Written.{blockOctets, marked, written}
 use Rattle.meaning.specs.Writing.{isEmpty}
 use Rattle.meaning.proofs.Trees.{Sub, sub, Par, par, subPlaces, treeCodes, subsOctets, lowerOctets, parOctets, parsOctets, treeOctets, Rising}
 use Rattle.meaning.proofs.Growing.{written-tree}
@@ -26,7 +26,7 @@ use Rattle.names.specs.Named.{keeps}
 use Rattle.names.specs.Masks.{only, nparPlaces, sparPlaces}
 use Rattle.names.specs.Inner.{keptPlace}
 use Rattle.names.specs.declared.Keep.{Keep}
-use Rattle.names.proofs.Rows.{keeps-npar, keeps-spar1, keeps-spar2}
+use Rattle.names.proofs.Printings.{keeps-npar, keeps-spar1, keeps-spar2}
 use Rattle.names.proofs.Parentage.{npar-parent, spar-parent}
 use Rattle.strike.specs.Inner.{sieved, subKept, subsKept, lowerKept, groupKept, wholePar, parKept, parsKept, restKept, fieldKept}
 use Rattle.strike.proofs.Filtering.{subsOnly, parsOnly, treeOnly, places-subs-only, places-pars-only, tree-only-good, Parented, tree-only-codes, tree-fewer}
@@ -47,7 +47,7 @@ same-only g h lo [] r e = refl
 same-only g h lo (q ∷ qs) r e = rw (e q (omega (arith, r .0)) (omega (arith, r .1)), same-only g h q qs (r .2) e)
 
 -- SPar(2) stands where a node does
-lower-octets : (gs : List Sub) → lowerOctets gs ≡ pick (isEmpty (subPlaces gs)) [] (block 6 64 (subPlaces gs) ++ subsOctets gs)
+lower-octets : (gs : List Sub) → lowerOctets gs ≡ pick (isEmpty (subPlaces gs)) [] (blockOctets 6 64 (subPlaces gs) ++ subsOctets gs)
 unfolding lowerOctets
 lower-octets [] = refl
 lower-octets ((sub t ks) ∷ gs) = refl
@@ -82,7 +82,7 @@ module _ (k : Keep) (l : List ℕ) (short : length l ≤ 64) where
       S : List Sub
       S = subsOnly (keeps k) c (subsAt ts l x)
 
-      go : (u : Bool) → pick u (block 6 64 K) [] ++ subsOctets S ≡ subsOctets (pick u (sub t K ∷ S) S)
+      go : (u : Bool) → pick u (blockOctets 6 64 K) [] ++ subsOctets S ≡ subsOctets (pick u (sub t K ∷ S) S)
       go true = refl
       go false = refl
 
@@ -132,7 +132,7 @@ module _ (k : Keep) (l : List ℕ) (short : length l ≤ 64) where
       S : List Par
       S = parsOnly (keeps k) b (parsAt ss l y)
 
-      go : (u : Bool) → pick u (marked (block 6 64 N ++ lowerOctets G)) [] ++ parsOctets S ≡ parsOctets (pick u (par s N G ∷ S) S)
+      go : (u : Bool) → pick u (marked (blockOctets 6 64 N ++ lowerOctets G)) [] ++ parsOctets S ≡ parsOctets (pick u (par s N G ∷ S) S)
       go true = refl
       go false = refl
 

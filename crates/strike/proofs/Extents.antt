@@ -19,7 +19,7 @@ use Rattle.tree.specs.Block.{setBits, blockNumbers, blockEnd, behind}
 use Rattle.tree.proofs.Lowest.{bits-none}
 use Rattle.meaning.specs.Minimal.{fullAtEnd, tight}
 use Rattle.meaning.specs.Writing.{isEmpty}
-use Rattle.meaning.specs.Written.{block}
+use Rattle.meaning.specs.Written.{blockOctets}
 use Rattle.meaning.proofs.Blocks.{Ends, last, more, block-back}
 use Rattle.tree.proofs.Numbering.{setBits-over}
 use Rattle.octets.proofs.Laws.{drop-next}
@@ -110,10 +110,10 @@ module _ (w : ℕ) where
       go false r = rw (lt-ltb x (2 ^ w) h) (r refl)
 
   -- so it is what is written of the numbers
-  trim-written : (xs : List ℕ) → 0 < w → w * length (trim (2 ^ w) xs) ≤ 511 → Small (2 ^ w) xs → block w (2 ^ w) (blockNumbers w (2 ^ w) 0 xs) ≡ trim (2 ^ w) xs
+  trim-written : (xs : List ℕ) → 0 < w → w * length (trim (2 ^ w) xs) ≤ 511 → Small (2 ^ w) xs → blockOctets w (2 ^ w) (blockNumbers w (2 ^ w) 0 xs) ≡ trim (2 ^ w) xs
   trim-written xs wide few s =
       let one : 1 * 2 ^ w ≡ 2 ^ w = omega arith in
-      let back : w * length (trim (1 * 2 ^ w) xs) ≤ 511 → block w (1 * 2 ^ w) (blockNumbers w (2 ^ w) 0 xs) ≡ trim (1 * 2 ^ w) xs =
+      let back : w * length (trim (1 * 2 ^ w) xs) ≤ 511 → blockOctets w (1 * 2 ^ w) (blockNumbers w (2 ^ w) 0 xs) ≡ trim (1 * 2 ^ w) xs =
       λ n. block-back w 1 wide (omega arith) _ _ n (record { ends = trim-ends xs s; reads = trim-numbers 0 xs s; full = trim-tight xs s }) in
       (rw one at back) few
 
@@ -275,7 +275,7 @@ octets-reach w places m l = omega (arith, trim-reach m (keptOctets w places m 0 
 
 -- the minimal block of what is kept
 written-kept : (w m : ℕ) (places : Places) (l : List ℕ) → m ≡ 2 ^ w → 0 < w → w ≤ 7 → length l ≤ 64
-    → block w m (only (keptPlace places) (blockNumbers w m 0 l)) ≡ trim m (keptOctets w places m 0 l)
+    → blockOctets w m (only (keptPlace places) (blockNumbers w m 0 l)) ≡ trim m (keptOctets w places m 0 l)
 written-kept w m places l mark wide narrow short =
     let xs = keptOctets w places (2 ^ w) 0 l in
     let few : w * length (trim (2 ^ w) xs) ≤ 511 = omega (arith, octets-reach w places (2 ^ w) l, mul-le-mul-right (length (trim (2 ^ w) xs)) narrow) in

@@ -11,7 +11,7 @@ use lib.Arith.{digits-mod}
 use lib.ListN.{length, length-append, length-replicate}
 use Rattle.tree.specs.Codes.{ofF, ofS}
 use Rattle.octets.specs.Places.{pick}
-use Rattle.meaning.specs.Written.{passed, skipped, blockFrom, block, marked}
+use Rattle.meaning.specs.Written.{passed, skipped, blockFrom, blockOctets, marked}
 use Rattle.meaning.proofs.Trees.{Sub, sub, Par, par, Tree, tree, subPlaces, parPlaces, subsCodes, parsCodes, treeCodes, subsOctets, lowerOctets, parOctets, parsOctets, treeOctets, Rising, GoodSubs, GoodPars, GoodTree}
 use Rattle.tree.proofs.Numbering.{shift}
 use Rattle.names.specs.Masks.{only}
@@ -275,7 +275,7 @@ module _ (w m : ℕ) (wide : 0 < w) where
       go false h = rw (next-length p a q qs) (omega (arith, later n p a 0 (only g qs) (rising-only g x qs up)))
 
   -- a block of fewer positions has no more octets
-  block-fewer : (g : ℕ → Bool) (qs : List ℕ) → Rising 0 qs → length (block w m (only g qs)) ≤ length (block w m qs)
+  block-fewer : (g : ℕ → Bool) (qs : List ℕ) → Rising 0 qs → length (blockOctets w m (only g qs)) ≤ length (blockOctets w m qs)
   block-fewer g qs r = fewer-from g 0 0 qs r
 
 -- marking changes no length
@@ -296,15 +296,15 @@ subs-fewer f c ((sub t ks) ∷ gs) g = go (f (c + t * 512)) (subs-fewer f c gs (
     S : List Sub
     S = subsOnly f c gs
 
-    go : (u : Bool) → length (subsOctets S) ≤ length (subsOctets gs) → length (subsOctets (pick u (sub t (only test ks) ∷ S) S)) ≤ length (block 6 64 ks ++ subsOctets gs)
+    go : (u : Bool) → length (subsOctets S) ≤ length (subsOctets gs) → length (subsOctets (pick u (sub t (only test ks) ∷ S) S)) ≤ length (blockOctets 6 64 ks ++ subsOctets gs)
     go true h =
-        rw (length-append (block 6 64 (only test ks)), length-append (block 6 64 ks)) (omega (arith, block-fewer 6 64 (omega arith) test ks (g .0)))
-    go false h = rw (length-append (block 6 64 ks)) (omega arith)
+        rw (length-append (blockOctets 6 64 (only test ks)), length-append (blockOctets 6 64 ks)) (omega (arith, block-fewer 6 64 (omega arith) test ks (g .0)))
+    go false h = rw (length-append (blockOctets 6 64 ks)) (omega arith)
 
-pub lower-most : (gs : List Sub) → length (lowerOctets gs) ≤ length (block 6 64 (subPlaces gs)) + length (subsOctets gs)
+pub lower-most : (gs : List Sub) → length (lowerOctets gs) ≤ length (blockOctets 6 64 (subPlaces gs)) + length (subsOctets gs)
 unfolding lowerOctets
 lower-most [] = omega arith
-lower-most (g ∷ gs) = rw (length-append (block 6 64 (subPlaces (g ∷ gs)))) (omega arith)
+lower-most (g ∷ gs) = rw (length-append (blockOctets 6 64 (subPlaces (g ∷ gs)))) (omega arith)
 
 lower-fewer : (f : ℕ → Bool) (c : ℕ) (gs : List Sub) → Rising 0 (subPlaces gs) → GoodSubs gs → length (lowerOctets (subsOnly f c gs)) ≤ length (lowerOctets gs)
 unfolding lowerOctets
@@ -313,8 +313,8 @@ lower-fewer f c (x ∷ gs) r g =
     let some = x ∷ gs in
     let S = subsOnly f c some in
     let test : ℕ → Bool = λ t. f (c + t * 512) in
-    let few : length (block 6 64 (subPlaces S)) ≤ length (block 6 64 (subPlaces some)) = rw (places-subs-only f c some) (block-fewer 6 64 (omega arith) test (subPlaces some) r) in
-    rw (length-append (block 6 64 (subPlaces some))) (omega (arith, lower-most S, subs-fewer f c some g))
+    let few : length (blockOctets 6 64 (subPlaces S)) ≤ length (blockOctets 6 64 (subPlaces some)) = rw (places-subs-only f c some) (block-fewer 6 64 (omega arith) test (subPlaces some) r) in
+    rw (length-append (blockOctets 6 64 (subPlaces some))) (omega (arith, lower-most S, subs-fewer f c some g))
 
 pars-fewer : (f : ℕ → Bool) (b : ℕ) (ps : List Par) → GoodPars ps → length (parsOctets (parsOnly f b ps)) ≤ length (parsOctets ps)
 unfolding GoodPars parOctets parsOctets parsOnly
@@ -330,16 +330,16 @@ pars-fewer f b ((par s ns gs) ∷ ps) g = go (f c) (pars-fewer f b ps (g .3))
     S : List Par
     S = parsOnly f b ps
 
-    few : length (marked (block 6 64 (only test ns) ++ lowerOctets (subsOnly f c gs))) ≤ length (marked (block 6 64 ns ++ lowerOctets gs))
+    few : length (marked (blockOctets 6 64 (only test ns) ++ lowerOctets (subsOnly f c gs))) ≤ length (marked (blockOctets 6 64 ns ++ lowerOctets gs))
     few =
-        rw (length-marked (block 6 64 (only test ns) ++ lowerOctets (subsOnly f c gs)), length-marked (block 6 64 ns ++ lowerOctets gs), length-append (block 6 64 (only test ns)), length-append (block 6 64 ns))
+        rw (length-marked (blockOctets 6 64 (only test ns) ++ lowerOctets (subsOnly f c gs)), length-marked (blockOctets 6 64 ns ++ lowerOctets gs), length-append (blockOctets 6 64 (only test ns)), length-append (blockOctets 6 64 ns))
         (omega (arith, block-fewer 6 64 (omega arith) test ns (g .0), lower-fewer f c gs (g .1) (g .2)))
 
     go : (u : Bool) → length (parsOctets S) ≤ length (parsOctets ps)
-        → length (parsOctets (pick u (par s (only test ns) (subsOnly f c gs) ∷ S) S)) ≤ length (marked (block 6 64 ns ++ lowerOctets gs) ++ parsOctets ps)
+        → length (parsOctets (pick u (par s (only test ns) (subsOnly f c gs) ∷ S) S)) ≤ length (marked (blockOctets 6 64 ns ++ lowerOctets gs) ++ parsOctets ps)
     go true h =
-        rw (length-append (marked (block 6 64 (only test ns) ++ lowerOctets (subsOnly f c gs))), length-append (marked (block 6 64 ns ++ lowerOctets gs))) (omega (arith, few))
-    go false h = rw (length-append (marked (block 6 64 ns ++ lowerOctets gs))) (omega arith)
+        rw (length-append (marked (blockOctets 6 64 (only test ns) ++ lowerOctets (subsOnly f c gs))), length-append (marked (blockOctets 6 64 ns ++ lowerOctets gs))) (omega (arith, few))
+    go false h = rw (length-append (marked (blockOctets 6 64 ns ++ lowerOctets gs))) (omega arith)
 
 -- what is left of a good tree has no more octets than the tree
 pub tree-fewer : (f : ℕ → Bool) (b : ℕ) (T : Tree) → GoodTree T → length (treeOctets (treeOnly f b T)) ≤ length (treeOctets T)
@@ -348,6 +348,6 @@ tree-fewer f b (tree ns ps) g =
     let one : ℕ → Bool = λ q. f (b + q) in
     let two : ℕ → Bool = λ s. f (b + s * ofS) in
     let P = parsOnly f b ps in
-    let few : length (block 7 128 (parPlaces P)) ≤ length (block 7 128 (parPlaces ps)) = rw (places-pars-only f b ps) (block-fewer 7 128 (omega arith) two (parPlaces ps) (g .1)) in
-    rw (length-append (block 7 128 (only one ns)), length-append (block 7 128 (parPlaces P)), length-append (block 7 128 ns), length-append (block 7 128 (parPlaces ps)))
+    let few : length (blockOctets 7 128 (parPlaces P)) ≤ length (blockOctets 7 128 (parPlaces ps)) = rw (places-pars-only f b ps) (block-fewer 7 128 (omega arith) two (parPlaces ps) (g .1)) in
+    rw (length-append (blockOctets 7 128 (only one ns)), length-append (blockOctets 7 128 (parPlaces P)), length-append (blockOctets 7 128 ns), length-append (blockOctets 7 128 (parPlaces ps)))
     (omega (arith, block-fewer 7 128 (omega arith) one ns (g .0), pars-fewer f b ps (g .2)))

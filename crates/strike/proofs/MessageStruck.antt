@@ -23,7 +23,7 @@ use Rattle.strike.specs.Inner.{fieldKept, standardKeep, Puts}
 use Rattle.strike.specs.Striking.{struckForm, strikeMessage, struckTold, Strikes}
 use Rattle.strike.specs.declared.Spot.{Spot}
 use Rattle.strike.specs.declared.Struck.{Struck}
-use Rattle.strike.specs.declared.Struck.the-variants.{Octets, SmallOutput}
+use Rattle.strike.specs.declared.Struck.the-variants.{Octets, BadLent}
 use Rattle.strike.proofs.Storing.{sets-front}
 use Rattle.strike.proofs.StruckForms.{struck-fields, struck-one, parts-fit-struck, struck-is-no-longer}
 
@@ -143,7 +143,7 @@ module _ {l : List ℕ} {kind standard tail : ℕ} {out : List ℕ} {k : Keep} (
 -- ---- the answers
 
 -- the output is too small
-pub strikes-small : (l out : List ℕ) → length out < 64 → Strikes l out SmallOutput out
+pub strikes-small : (l out : List ℕ) → length out < 64 → Strikes l out BadLent out
 unfolding strikeMessage
 strikes-small l out h = let t = lt-ltb (length out) 64 h in record { reply = rw t; output = rw t }
 

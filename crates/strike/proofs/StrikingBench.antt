@@ -10,8 +10,8 @@ use Rattle.tree.specs.Fields.{isIn}
 use Rattle.message.specs.Nonstandard.{nsForm, tailForm}
 use Rattle.message.specs.Reader.{messageForm, readMessage}
 use Rattle.meaning.specs.Written.{blockFrom, run, from, positions, marked, subsWritten, lowerWritten, parWritten, parsWritten, restWritten, written}
-use Rattle.meaning.specs.Writing.{Writing, declined, sent, messageOctets}
-use Rattle.names.specs.Named.{rowsUnder, rowAt, rowOf}
+use Rattle.meaning.specs.Writing.{Writing, refused, sent, messageOctets}
+use Rattle.names.specs.Named.{printedUnder, printedAt, printedOf}
 use Rattle.names.specs.Masks.{only}
 use Rattle.strike.specs.Striking.{struckCodes, struckForm, strikeMessage}
 
@@ -39,13 +39,13 @@ pub record Bench : Type 0 where
   -- ACK(1)
   pub ack : StrikesTo (0x24 ∷ []) (0x24 ∷ [])
   -- the refusals in their order
-  pub small-output : strikeMessage [] 63 ≡ declined 1
-  pub no-octet : striking [] ≡ declined 2
-  pub unknown : striking (0x2d ∷ []) ≡ declined 3
-  pub missing : striking (0x22 ∷ 0x80 ∷ 0x80 ∷ 0x80 ∷ 0x81 ∷ []) ≡ declined 4
+  pub small-output : strikeMessage [] 63 ≡ refused 1
+  pub no-octet : striking [] ≡ refused 2
+  pub unknown : striking (0x2d ∷ []) ≡ refused 3
+  pub missing : striking (0x22 ∷ 0x80 ∷ 0x80 ∷ 0x80 ∷ 0x81 ∷ []) ≡ refused 4
 
 pub bench : Bench
-unfolding setBits blockNumbers blockEnd subCodes subsBehind groupCodes groupBehind parCodes parsBehind restCodes restBehind fieldCodes fieldBehind blockForm subsForm groupForm parsForm restForm fieldForm isIn nsForm tailForm messageForm readMessage blockFrom run from positions marked subsWritten lowerWritten parWritten parsWritten restWritten written messageOctets rowsUnder rowAt rowOf only struckCodes struckForm strikeMessage
+unfolding setBits blockNumbers blockEnd subCodes subsBehind groupCodes groupBehind parCodes parsBehind restCodes restBehind fieldCodes fieldBehind blockForm subsForm groupForm parsForm restForm fieldForm isIn nsForm tailForm messageForm readMessage blockFrom run from positions marked subsWritten lowerWritten parWritten parsWritten restWritten written messageOctets printedUnder printedAt printedOf only struckCodes struckForm strikeMessage
 bench =
     record {
       newer = refl;

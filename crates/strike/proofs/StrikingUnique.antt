@@ -11,12 +11,12 @@ use Rattle.octets.specs.Lay.{put}
 use Rattle.octets.specs.Places.{pick}
 use Rattle.octets.proofs.Laying.{put-nil}
 use Rattle.tree.specs.declared.Field.{Field}
-use Rattle.meaning.specs.Writing.{Writing, declined, sent, Reply, writeReply, writeLeaves}
+use Rattle.meaning.specs.Writing.{Writing, refused, sent, Reply, writeReply, writeLeaves}
 use Rattle.names.specs.declared.Keep.{Keep}
 use Rattle.strike.specs.Rewriting.{rewritten, Rewrites}
 use Rattle.strike.specs.Striking.{strikeMessage, struckTold, Strikes}
 use Rattle.strike.specs.declared.Struck.{Struck}
-use Rattle.strike.specs.declared.Struck.the-variants.{Octets, SmallOutput, BadSize, UnknownType, Malformed}
+use Rattle.strike.specs.declared.Struck.the-variants.{Octets, BadLent, BadSize, UnknownType, Malformed}
 
 -- ---- striking a message
 
@@ -24,14 +24,14 @@ use Rattle.strike.specs.declared.Struck.the-variants.{Octets, SmallOutpu
 abbrev back : Reply → Struck
 back r =
     pick (eqb (r .no) 0) (Octets (r .count))
-    (pick (eqb (r .no) 1) SmallOutput
+    (pick (eqb (r .no) 1) BadLent
     (pick (eqb (r .no) 2) BadSize
     (pick (eqb (r .no) 3) UnknownType Malformed)))
 
 -- each answer has a reply of its own
 back-told : (r : Struck) → back (struckTold r) ≡ r
 back-told (Octets n) = refl
-back-told SmallOutput = refl
+back-told BadLent = refl
 back-told BadSize = refl
 back-told UnknownType = refl
 back-told Malformed = refl
@@ -43,11 +43,11 @@ strike-unique l out₀ r r′ out₁ out₁′ p q =
 
 -- a refusal writes nothing
 pub strike-refusal-writes-nothing : (l out₀ : List ℕ) (r : Struck) (out₁ : List ℕ) → Strikes l out₀ r out₁ → (struckTold r .no ≡ 0 → ⊥) → out₁ ≡ out₀
-strike-refusal-writes-nothing l out₀ r out₁ s refused = go (strikeMessage l (length out₀)) (s .reply) (s .output)
+strike-refusal-writes-nothing l out₀ r out₁ s h = go (strikeMessage l (length out₀)) (s .reply) (s .output)
   where
     go : (x : Writing) → struckTold r ≡ writeReply x → out₁ ≡ writeLeaves x out₀ → out₁ ≡ out₀
-    go (declined k) t e = e
-    go (sent os) t e = absurd (refused (ap (λ (y : Reply). y .no) t))
+    go (refused k) t e = e
+    go (sent os) t e = absurd (h (ap (λ (y : Reply). y .no) t))
 
 -- ---- rewriting a field
 

@@ -28,7 +28,7 @@ use Rattle.meaning.proofs.Growing.{within-at, in-either, in-front}
 use Rattle.meaning.proofs.Meanings.{Meant, between-within, meaning-join}
 use Rattle.meaning.proofs.Announcing.{field-seven, tail-agrees}
 use Rattle.meaning.proofs.RoundTrip.{writable-sent, accepted-readable}
-use Rattle.names.specs.Named.{rowsUnder, rowAt, rowOf, namedCode, keeps}
+use Rattle.names.specs.Named.{printedUnder, printedAt, printedOf, namedCode, keeps}
 use Rattle.names.specs.Masks.{only}
 use Rattle.names.specs.declared.Keep.the-variants.{All, Named}
 use Rattle.names.proofs.Sieving.{only-true, in-only}
@@ -57,7 +57,7 @@ secondStays l = only (keeps (standardKeep (typeOf l))) (fieldCodes (fieldBase 2)
 
 -- the code that announces NS is named
 pub ns-named : namedCode (codeOf 1 0 0 7) ≡ true
-unfolding rowsUnder rowAt rowOf
+unfolding printedUnder printedAt printedOf
 ns-named = refl
 
 -- a number that is not in the second of two lists is in both exactly if it is in the first

@@ -11,7 +11,7 @@ use Rattle.octets.specs.Places.{pick}
 use Rattle.tree.specs.Block.{numbers, behind, ended}
 use Rattle.tree.specs.Codes.{ofT, groupBehind, ofS}
 use Rattle.message.specs.Kinds.{ms}
-use Rattle.meaning.specs.Written.{block, marked}
+use Rattle.meaning.specs.Written.{blockOctets, marked}
 use Rattle.meaning.specs.Writing.{isEmpty}
 use Rattle.names.specs.Masks.{nparPlaces, sparPlaces, only}
 use Rattle.names.specs.Inner.{keptPlace}
@@ -29,7 +29,7 @@ abbrev pub sieved : ℕ → ℕ → Places → List ℕ → ℕ → List ℕ
 sieved w m p l e = only (keptPlace p) (numbers w m 0 l e)
 
 abbrev pub blockKept : ℕ → ℕ → Places → List ℕ → ℕ → List ℕ
-blockKept w m p l e = block w m (sieved w m p l e)
+blockKept w m p l e = blockOctets w m (sieved w m p l e)
 
 -- the NPar(3) block of one SPar(2) position, and those of several, from place e on; p says which SPar(2) are kept
 unfoldable pub subKept : Keep → ℕ → Places → ℕ → List ℕ → ℕ → List ℕ

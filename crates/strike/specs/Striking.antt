@@ -10,12 +10,13 @@ use Rattle.octets.specs.Places.{pick}
 use Rattle.tree.specs.Codes.{fieldBase, fieldCodes}
 use Rattle.message.specs.Kinds.{hasFields, typeOf, revisionOf}
 use Rattle.tree.specs.Fields.{mostOctets}
-use Rattle.message.specs.Reader.{listRoom, standardAt, nsOf, Reading, refused, accepted, readMessage}
-use Rattle.meaning.specs.Writing.{Writing, declined, sent, declinedIf, messageOctets, Reply, writeReply, writeLeaves}
+use Rattle.message.specs.Reader.{listRoom, standardAt, nsOf, Reading, accepted, readMessage}
+use Rattle.message.specs.Reader as reader
+use Rattle.meaning.specs.Writing.{Writing, refused, sent, refusedIf, messageOctets, Reply, writeReply, writeLeaves}
 use Rattle.names.specs.Named.{namedCode}
 use Rattle.names.specs.Masks.{only}
 use Rattle.strike.specs.declared.Struck.{Struck}
-use Rattle.strike.specs.declared.Struck.the-variants.{Octets, SmallOutput, BadSize, UnknownType, Malformed}
+use Rattle.strike.specs.declared.Struck.the-variants.{Octets, BadLent, BadSize, UnknownType, Malformed}
 
 -- the codes that stay: of I the named ones; of S the named ones, but all in an MS, which is type 1
 unfoldable pub struckCodes : List ℕ → List ℕ
@@ -31,17 +32,17 @@ struckForm l = messageOctets (typeOf l) (revisionOf l) (struckCodes l) (nsOf l)
 
 -- 2 to 4 are those of the message reader
 abbrev pub unlessRefused : Reading → List ℕ → Writing
-unlessRefused (refused k) os = declined k
+unlessRefused (reader.refused k) os = refused k
 unlessRefused accepted os = sent os
 
 -- 1, and then the others
 unfoldable pub strikeMessage : List ℕ → ℕ → Writing
-strikeMessage l room = declinedIf (ltb room mostOctets) 1 (unlessRefused (readMessage l listRoom) (struckForm l))
+strikeMessage l room = refusedIf (ltb room mostOctets) 1 (unlessRefused (readMessage l listRoom) (struckForm l))
 
 -- each answer's number and value
 abbrev pub struckTold : Struck → Reply
 struckTold (Octets n) = record { no = 0; count = n }
-struckTold SmallOutput = record { no = 1; count = 0 }
+struckTold BadLent = record { no = 1; count = 0 }
 struckTold BadSize = record { no = 2; count = 0 }
 struckTold UnknownType = record { no = 3; count = 0 }
 struckTold Malformed = record { no = 4; count = 0 }

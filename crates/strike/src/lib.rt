@@ -38,22 +38,22 @@ use tree::group_behind;
 use tree::mark_last;
 
 // How far reading and writing have come.
-pub struct Spot {
-    pub from: usize,
-    pub to: usize,
+struct Spot {
+    from: usize,
+    to: usize,
 }
 
 // What is kept of the positions of an SPar block: the code that they stand under, and which of them are kept.
-pub struct Branch {
-    pub keep: Keep,
-    pub base: u32,
-    pub places: Places,
+struct Branch {
+    keep: Keep,
+    base: u32,
+    places: Places,
 }
 
-// The answer to striking: the number of octets, or why there are none.
+// The answer to striking: the number of octets, or why there are none. BadLent: the output is under 64 octets.
 pub enum Struck {
     Octets(usize),
-    SmallOutput,
+    BadLent,
     BadSize,
     UnknownType,
     Malformed,
@@ -109,9 +109,9 @@ fn is_kept(places: Places, q: u32) -> bool
 }
 
 // The minimal block of what is kept: how many octets it has; and the place behind the block.
-pub struct Extent {
-    pub count: usize,
-    pub end: usize,
+struct Extent {
+    count: usize,
+    end: usize,
 }
 
 // How many octets of the block at a place are kept: those up to the last with something set, and one where nothing is.
@@ -399,7 +399,7 @@ pub fn strike_message(s: &[u8], out: &mut [u8]) -> Struck
     ensures { λ r. ⌜ Strikes (now (s .entry)) (now (out .entry)) r (now (out .exit)) ⌝ }
 {
     if out.len() < MOST_OCTETS {
-        return Struck::SmallOutput;
+        return Struck::BadLent;
     }
     match check_message(s) {
         MessageCheck::Parted(parts) => {

@@ -43,10 +43,10 @@ fn next_place(t: &[u8], k: usize, m: u8) -> usize
 }
 
 // Whether all so far was found, and the places behind it in both runs of octets.
-pub struct Paired {
-    pub fits: bool,
-    pub from: usize,
-    pub to: usize,
+struct Paired {
+    fits: bool,
+    from: usize,
+    to: usize,
 }
 
 // Passes over the block at a place of the other octets where the first have none; the first stay where they are.
@@ -139,12 +139,12 @@ fn block_within(s: &[u8], e: usize, t: &[u8], k: usize, w: u32, m: u8) -> Paired
 
 // A walk over the positions that are set in a block of the other octets, with the same block of the first: the places of the octets
 // that come next, what is left of those before, and whether the position that was found last is set in the first too.
-pub struct Walk {
-    pub i: usize,
-    pub j: usize,
-    pub mine: u8,
-    pub theirs: u8,
-    pub set: bool,
+struct Walk {
+    i: usize,
+    j: usize,
+    mine: u8,
+    theirs: u8,
+    set: bool,
 }
 
 // The walk at the next octets, where nothing is left of those before.

@@ -12,7 +12,7 @@ use lib.ListN.{length-append}
 use Rattle.octets.specs.Places.{pick}
 use Rattle.tree.specs.Codes.{fieldBase, ofF, ofS}
 use Rattle.tree.proofs.Numbering.{shift}
-use Rattle.meaning.specs.Written.{block, run, from, positions, marked, written}
+use Rattle.meaning.specs.Written.{blockOctets, run, from, positions, marked, written}
 use Rattle.meaning.specs.Writing.{isEmpty}
 use Rattle.meaning.proofs.Blocks.{block-some}
 use Rattle.meaning.proofs.Trees.{Sub, sub, Par, par, Tree, tree, subPlaces, parPlaces, subsCodes, parsCodes, treeCodes, subsOctets, lowerOctets, parOctets, parsOctets, treeOctets, Rising, GoodSubs, GoodPars, GoodTree}
@@ -59,7 +59,7 @@ unfolding Rising subsCodes subsOctets
 ends-subs c t [] R z r e = e
 ends-subs c t ((sub q ks) ∷ gs) R z r e =
     rw (sub-apart c t q z (r .0) (r .1))
-    (sym (empty-some (block 6 64 ks ++ subsOctets gs) (λ n. omega (arith, length-append (block 6 64 ks) (subsOctets gs), block-some 6 64 ks))))
+    (sym (empty-some (blockOctets 6 64 ks ++ subsOctets gs) (λ n. omega (arith, length-append (blockOctets 6 64 ks) (subsOctets gs), block-some 6 64 ks))))
 
 -- their NPar(3) blocks, the last one with bit 8, and then what follows
 heads-subs : (c t lim : ℕ) (gs : List Sub) (R : List ℕ) → c % ofS ≡ 0 → c + ofS ≤ lim → Rising t (subPlaces gs) → GoodSubs gs → Within (c + ofS) lim R → endsPar R ≡ true
@@ -69,7 +69,7 @@ heads-subs c t lim [] R z h r g w e = refl
 heads-subs c t lim ((sub q ks) ∷ gs) R z h r g w e =
     let d = c + q * 512 in
     let S = subsCodes c gs in
-    let B = block 6 64 ks in
+    let B = blockOctets 6 64 ks in
     let behind = within-join (d + 512) (c + ofS) lim S R (omega arith) h (subs-within c q (d + 512) gs (omega arith) (r .2) (g .1)) w in
     let cut = cut-join (suc d) (d + 512) lim (shift d ks) (S ++ R) (npar-within d ks (g .0)) behind in
     let ih = heads-subs c q lim gs R z h (r .2) (g .1) w e in
@@ -78,11 +78,11 @@ heads-subs c t lim ((sub q ks) ∷ gs) R z h r g w e =
 
 -- with their SPar(2)
 lower-octets : (c : ℕ) (gs : List Sub) → Rising 0 (subPlaces gs) → GoodSubs gs
-    → pick (isEmpty (subsCodes c gs)) [] (block 6 64 (positions 512 c (subsCodes c gs))) ++ subsOctets gs ≡ lowerOctets gs
+    → pick (isEmpty (subsCodes c gs)) [] (blockOctets 6 64 (positions 512 c (subsCodes c gs))) ++ subsOctets gs ≡ lowerOctets gs
 unfolding subsCodes subsOctets lowerOctets
 lower-octets c [] r g = refl
 lower-octets c ((sub q ks) ∷ gs) r g = let G = (sub q ks) ∷ gs in
-    ap (λ (x : List ℕ). block 6 64 x ++ subsOctets G) (subs-positions c 0 G r g)
+    ap (λ (x : List ℕ). blockOctets 6 64 x ++ subsOctets G) (subs-positions c 0 G r g)
 
 -- ---- the field
 
@@ -94,8 +94,8 @@ heads-pars b t ((par s ns gs) ∷ ps) z r g =
     let c = b + s * ofS in
     let S = subsCodes c gs in
     let P = parsCodes b ps in
-    let L = pick (isEmpty S) [] (block 6 64 (positions 512 c S)) in
-    let B = block 6 64 ns in
+    let L = pick (isEmpty S) [] (blockOctets 6 64 (positions 512 c S)) in
+    let B = blockOctets 6 64 ns in
     let O = subsOctets gs in
     let top : c % ofS ≡ 0 = omega arith in
     let ih = heads-pars b s ps z (r .2) (g .3) in

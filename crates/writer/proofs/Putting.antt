@@ -21,7 +21,7 @@ use Rattle.tree.specs.Codes.{fieldBase, ofS}
 use Rattle.message.specs.Kinds.{firstOctet}
 use Rattle.tree.specs.Fields.{mostOctets}
 use Rattle.meaning.specs.Meaning.{ascendingFrom}
-use Rattle.meaning.specs.Written.{passed, skipped, carried, blockFrom, block, run, from, positions, marked, written}
+use Rattle.meaning.specs.Written.{passed, skipped, carried, blockFrom, blockOctets, run, from, positions, marked, written}
 use Rattle.meaning.specs.Writing.{messageOctets, unlessLong}
 use Rattle.writer.specs.Writer.{Writes}
 use Rattle.writer.specs.Inner.{Puts, endsPar, lowerBlock, headBlocks, headPut, headsFrom, fieldPut}
@@ -207,7 +207,7 @@ between-behind x n l h e y = rw (slice-behind x n l e) (between-from x l h y)
 -- of the block of a list all but what the codes from place i on give was put. The last position put stands at the octet at hand, which
 -- has nothing above it
 pub record Blocking (w m step base : ℕ) (list : List ℕ) (i : ℕ) (out₀ : List ℕ) (at₀ : ℕ) (out : List ℕ) (row : Row) : Type 0 where
-  pub puts : Putting (block w m (positions step base list)) (blockFrom w m (row .above) (row .octet) (positions step base (drop i list))) out₀ at₀ out (row .at)
+  pub puts : Putting (blockOctets w m (positions step base list)) (blockFrom w m (row .above) (row .octet) (positions step base (drop i list))) out₀ at₀ out (row .at)
   pub last : ℕ
   pub reached : row .above ≤ last
   pub near : last ≤ row .above + w
@@ -282,7 +282,7 @@ module _ {w m step base : ℕ} {list : List ℕ} {i : ℕ} {out₀ : List ℕ} {
 
 -- the last octet is put
 pub blocking-end : {w m step base : ℕ} {list : List ℕ} {i : ℕ} {out₀ : List ℕ} {at₀ : ℕ} {out : List ℕ} {row : Row} {out₁ : List ℕ} {at₁ : ℕ} → Blocking w m step base list i out₀ at₀ out row
-    → length list ≤ i → Puts ((row .octet + m) ∷ []) out (row .at) out₁ at₁ → Puts (block w m (positions step base list)) out₀ at₀ out₁ at₁
+    → length list ≤ i → Puts ((row .octet + m) ∷ []) out (row .at) out₁ at₁ → Puts (blockOctets w m (positions step base list)) out₀ at₀ out₁ at₁
 unfolding positions blockFrom
 blocking-end {list = list} {i} x h y = putting-end (rw (drop-of-length-le list {i = i} h) at (x .puts)) y
 
@@ -325,7 +325,7 @@ module _ {list : List ℕ} {i : ℕ} {out₀ : List ℕ} {at₀ : ℕ} {out : Li
     parting-behind = rw (slice-from list (i + 1 + n)) others
 
     -- its blocks are put
-    module _ {out₁ out₂ : List ℕ} {at₁ at₂ : ℕ} (y : Puts (block 6 64 (positions 1 (getD list i 0) (take (n - 0) (take (length list - (i + 1)) (drop (i + 1) list))))) out at out₁ at₁)
+    module _ {out₁ out₂ : List ℕ} {at₁ at₂ : ℕ} (y : Puts (blockOctets 6 64 (positions 1 (getD list i 0) (take (n - 0) (take (length list - (i + 1)) (drop (i + 1) list))))) out at out₁ at₁)
         (z : Puts (lowerBlock (getD list i 0) (take (length list - (i + 1 + n)) (drop (i + 1 + n) list))) out₁ at₁ out₂ at₂) where
       blocks : Puts (headBlocks (getD list i 0) (run (getD list i 0 + 512) (drop (i + 1) list)) (drop (i + 1 + n) list)) out at out₂ at₂
       blocks = puts-then (rw (slice-run _ n _ e, slice-from list (i + 1)) at y) (rw (slice-from list (i + 1 + n)) at z)
@@ -343,7 +343,7 @@ module _ {list : List ℕ} {i : ℕ} {out₀ : List ℕ} {at₀ : ℕ} {out : Li
 
       pub parting-closed : {out₃ : List ℕ} → endsPar (drop (i + 1 + n) list) ≡ true → length out₃ ≡ 64
           → out₃ ≡ pick (ltb 0 at₂) (set out₂ (at₂ - 1) (getD out₂ (at₂ - 1) 0 % 128 + 128)) out₂ → Parting list (i + 1 + n) out₀ at₀ out₃ at₂
-      parting-closed k size m = let some : 0 < at₂ = omega (arith, z .at, puts-some y (block-some 6 64 _)) in turn (rw k (puts-marked (x .puts .puts .size) (omega (arith, length-append (block 6 64 (positions 1 (getD list i 0) (run (getD list i 0 + 512) (drop (i + 1) list)))) (lowerBlock (getD list i 0) (drop (i + 1 + n) list)), block-some 6 64 (positions 1 (getD list i 0) (run (getD list i 0 + 512) (drop (i + 1) list))))) blocks size (rw (lt-ltb 0 at₂ some) at m)))
+      parting-closed k size m = let some : 0 < at₂ = omega (arith, z .at, puts-some y (block-some 6 64 _)) in turn (rw k (puts-marked (x .puts .puts .size) (omega (arith, length-append (blockOctets 6 64 (positions 1 (getD list i 0) (run (getD list i 0 + 512) (drop (i + 1) list)))) (lowerBlock (getD list i 0) (drop (i + 1 + n) list)), block-some 6 64 (positions 1 (getD list i 0) (run (getD list i 0 + 512) (drop (i + 1) list))))) blocks size (rw (lt-ltb 0 at₂ some) at m)))
 
 -- all heads' blocks were put
 pub parting-end : {list : List ℕ} {i : ℕ} {out₀ : List ℕ} {at₀ : ℕ} {out : List ℕ} {at : ℕ} → Parting list i out₀ at₀ out at → length list ≤ i → Puts (headsFrom 0 list) out₀ at₀ out at
@@ -359,7 +359,7 @@ ends-before list i h = rw (drop-next list i h)
 
 -- a field is put: NPar(1), SPar(1), and the Par(2) blocks
 pub field-puts : {out₀ out₁ out₂ out₃ : List ℕ} {at₀ at₁ at₂ at₃ : ℕ} (b n : ℕ) (l : List ℕ) → n ≡ length (run (b + 512) l) → let rest = take (length l - n) (drop n l) in
-    Puts (block 7 128 (positions 1 b (take (n - 0) l))) out₀ at₀ out₁ at₁ → Puts (block 7 128 (positions ofS b rest)) out₁ at₁ out₂ at₂ → Puts (headsFrom 0 rest) out₂ at₂ out₃ at₃
+    Puts (blockOctets 7 128 (positions 1 b (take (n - 0) l))) out₀ at₀ out₁ at₁ → Puts (blockOctets 7 128 (positions ofS b rest)) out₁ at₁ out₂ at₂ → Puts (headsFrom 0 rest) out₂ at₂ out₃ at₃
     → Puts (fieldPut b l) out₀ at₀ out₃ at₃
 field-puts b n l e x y z = rw (slice-run (b + 512) n l e, slice-behind (b + 512) n l e) at (puts-then x (puts-then y z))
 

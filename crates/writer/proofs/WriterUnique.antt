@@ -5,16 +5,16 @@ use mathlib.Core.Path.{_≡_, refl, sym, ap, _∙_}
 use mathlib.Core.List.{List}
 use lib.Dec.{eqb}
 use Rattle.octets.specs.Places.{pick}
-use Rattle.meaning.specs.Writing.{Writing, declined, sent, Reply}
+use Rattle.meaning.specs.Writing.{Writing, refused, sent, Reply}
 use Rattle.writer.specs.Writer.{writeTold, Writes}
 use Rattle.writer.specs.declared.MessageWritten.{MessageWritten}
-use Rattle.writer.specs.declared.MessageWritten.the-variants.{Octets, SmallOutput, BadType, BadCode, NotAscending, NoParent, NotEmpty, BadNs, TooLong}
+use Rattle.writer.specs.declared.MessageWritten.the-variants.{Octets, BadLent, BadType, BadCode, NotAscending, NoParent, NotEmpty, BadNs, TooLong}
 
 -- the answer that a reply tells
 abbrev back : Reply → MessageWritten
 back r =
     pick (eqb (r .no) 0) (Octets (r .count))
-    (pick (eqb (r .no) 1) SmallOutput
+    (pick (eqb (r .no) 1) BadLent
     (pick (eqb (r .no) 3) BadType
     (pick (eqb (r .no) 5) BadCode
     (pick (eqb (r .no) 6) NotAscending
@@ -25,7 +25,7 @@ back r =
 -- each answer has a reply of its own
 back-told : (r : MessageWritten) → back (writeTold r) ≡ r
 back-told (Octets n) = refl
-back-told SmallOutput = refl
+back-told BadLent = refl
 back-told BadType = refl
 back-told BadCode = refl
 back-told NotAscending = refl
@@ -41,5 +41,5 @@ write-unique x out₀ r r′ out₁ out₁′ p q =
 
 -- a refusal writes nothing
 pub write-refusal-writes-nothing : (x : Writing) (out₀ : List ℕ) (r : MessageWritten) (out₁ : List ℕ) → Writes x out₀ r out₁ → (writeTold r .no ≡ 0 → ⊥) → out₁ ≡ out₀
-write-refusal-writes-nothing (declined k) out₀ r out₁ w refused = w .output
-write-refusal-writes-nothing (sent os) out₀ r out₁ w refused = absurd (refused (ap (λ (t : Reply). t .no) (w .reply)))
+write-refusal-writes-nothing (refused k) out₀ r out₁ w h = w .output
+write-refusal-writes-nothing (sent os) out₀ r out₁ w h = absurd (h (ap (λ (t : Reply). t .no) (w .reply)))

@@ -10,7 +10,7 @@ use lib.ListN.{length}
 use lib.Seq.{sets}
 use Rattle.octets.specs.Places.{pick}
 use Rattle.tree.specs.Codes.{nOf, parentOf, ofF, ofS, ofT}
-use Rattle.meaning.specs.Written.{block, run, from, positions, marked}
+use Rattle.meaning.specs.Written.{blockOctets, run, from, positions, marked}
 use Rattle.meaning.specs.Writing.{isEmpty}
 
 -- the octets were put at a place; where they pass the buffer's end, what it holds does not matter
@@ -33,11 +33,11 @@ endsPar (c ∷ l) = eqb (c % ofS) 0
 
 -- SPar(2) of a head, from the codes behind those under it, if the head is an SPar(1) and has any
 abbrev pub lowerBlock : ℕ → List ℕ → List ℕ
-lowerBlock h l = pick (eqb (h % ofS) 0) (pick (isEmpty (run (h + ofS) l)) [] (block 6 64 (positions ofT h (run (h + ofS) l)))) []
+lowerBlock h l = pick (eqb (h % ofS) 0) (pick (isEmpty (run (h + ofS) l)) [] (blockOctets 6 64 (positions ofT h (run (h + ofS) l)))) []
 
 -- a head's blocks, from the codes under it and those behind them, and with bit 8 where an SPar(1) ends
 abbrev pub headBlocks : ℕ → List ℕ → List ℕ → List ℕ
-headBlocks h under behind = block 6 64 (positions 1 h under) ++ lowerBlock h behind
+headBlocks h under behind = blockOctets 6 64 (positions 1 h under) ++ lowerBlock h behind
 
 abbrev pub headPut : ℕ → List ℕ → List ℕ → List ℕ
 headPut h under behind = pick (endsPar behind) (marked (headBlocks h under behind)) (headBlocks h under behind)
@@ -50,4 +50,4 @@ headsFrom lim (h ∷ l) = pick (ltb h lim) (headsFrom lim l) (headPut h (run (h 
 -- the field of the codes above b
 abbrev pub fieldPut : ℕ → List ℕ → List ℕ
 fieldPut b l =
-    block 7 128 (positions 1 b (run (b + ofT) l)) ++ (block 7 128 (positions ofS b (from (b + ofT) l)) ++ headsFrom 0 (from (b + ofT) l))
+    blockOctets 7 128 (positions 1 b (run (b + ofT) l)) ++ (blockOctets 7 128 (positions ofS b (from (b + ofT) l)) ++ headsFrom 0 (from (b + ofT) l))

@@ -5,12 +5,12 @@ use mathlib.Core.List.{List}
 use mathlib.Core.Path.{_≡_}
 use Rattle.meaning.specs.Writing.{Writing, Reply, writeReply, writeLeaves}
 use Rattle.writer.specs.declared.MessageWritten.{MessageWritten}
-use Rattle.writer.specs.declared.MessageWritten.the-variants.{Octets, SmallOutput, BadType, BadCode, NotAscending, NoParent, NotEmpty, BadNs, TooLong}
+use Rattle.writer.specs.declared.MessageWritten.the-variants.{Octets, BadLent, BadType, BadCode, NotAscending, NoParent, NotEmpty, BadNs, TooLong}
 
 -- each answer's number and value
 abbrev pub writeTold : MessageWritten → Reply
 writeTold (Octets n) = record { no = 0; count = n }
-writeTold SmallOutput = record { no = 1; count = 0 }
+writeTold BadLent = record { no = 1; count = 0 }
 writeTold BadType = record { no = 3; count = 0 }
 writeTold BadCode = record { no = 5; count = 0 }
 writeTold NotAscending = record { no = 6; count = 0 }

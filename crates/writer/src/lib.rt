@@ -7,7 +7,7 @@ ghost use lib.ListN.{length, getD, set, drop};
 ghost use Rattle.tree.specs.Codes.{ofF, fieldBase};
 ghost use Rattle.tree.specs.Fields.{isIn, mostOctets};
 ghost use Rattle.meaning.specs.Meaning.{shaped, allShaped, ascending, allParented};
-ghost use Rattle.meaning.specs.Written.{passed, skipped, carried, block, run, from, positions, written};
+ghost use Rattle.meaning.specs.Written.{passed, skipped, carried, blockOctets, run, from, positions, written};
 ghost use Rattle.message.specs.Kinds.{known};
 ghost use Rattle.meaning.specs.Writing.{endsThere, nsAgrees, messageOctets, unlessLong, checkedWriting, listWriting};
 ghost use Rattle.writer.specs.Writer.{Writes};
@@ -33,10 +33,10 @@ const TOO_MANY: usize = MOST_OCTETS + 1;
 // The code that announces NS, 1.0.0.7.
 const NON_STANDARD: u32 = IDENTIFICATION + 7;
 
-// The message writer's answer: the number of octets, or why there are none.
+// The message writer's answer: the number of octets, or why there are none. BadLent: the output is under 64 octets.
 pub enum MessageWritten {
     Octets(usize),
-    SmallOutput,
+    BadLent,
     BadType,
     BadCode,
     NotAscending,
@@ -170,10 +170,10 @@ fn put_octet(out: &mut [u8], at: usize, octet: u8) -> usize
 }
 
 // Where the octet at hand goes, what it has so far, and the position below its first.
-pub struct Row {
-    pub at: usize,
-    pub octet: u8,
-    pub above: u32,
+struct Row {
+    at: usize,
+    octet: u8,
+    above: u32,
 }
 
 // Passes octets of a block, count of them: the one at hand, and then such with nothing set.
@@ -228,7 +228,7 @@ fn put_block(
     start: usize,
 ) -> usize
     requires { ⌜ Between base (base + 512 * step) (now list) × (0 < step) × (base + 512 * step < 4294967296) × (m ≡ 2 ^ w) × (6 ≤ w) × (w ≤ 7) × (length (now out) ≡ 64) × (start ≤ 65) ⌝ }
-    ensures { λ r. ⌜ Puts (block w m (positions step base (now (list .entry)))) (now (out .entry)) start (now (out .exit)) r ⌝ }
+    ensures { λ r. ⌜ Puts (blockOctets w m (positions step base (now (list .entry)))) (now (out .entry)) start (now (out .exit)) r ⌝ }
 {
     let mut row = Row {
         at: start,
@@ -430,7 +430,7 @@ pub fn write_message(
     ensures { λ r. ⌜ MessageWrites kind revision (now (list .entry)) (now (ns .entry)) (now (out .entry)) r (now (out .exit)) ⌝ }
 {
     if out.len() < MOST_OCTETS {
-        return MessageWritten::SmallOutput;
+        return MessageWritten::BadLent;
     }
     if !is_known(kind) {
         return MessageWritten::BadType;

@@ -3,7 +3,7 @@
 use mathlib.Core.Path.{refl}
 use native.Mathlib.Omega.{arith}
 use borrow.Author.Needs.{needs}
-use Rattle.frame.specs.declared.FrameRead.the-variants.{Octets, NoRoom, BadFlags, SplitOctet, TooShort, TooLong, WrongCheck}
+use Rattle.frame.specs.declared.FrameRead.the-variants.{Octets, BadLent, BadFlags, SplitOctet, TooShort, TooLong, WrongCheck}
 use Rattle.chip.proofs.FrameTold.{octets-few, read-told}
 use Rattle.chip.proofs.kamvezhor_read_frame.Statement.{statement}
 use Rattle.chip.proofs.kamvezhor_read_frame.Tie as tie
@@ -63,7 +63,7 @@ same-length-2 : tie.Need-same-length-2
 same-length-2 c = search needs
 
 returns-2 : tie.Need-returns-2
-returns-2 c = read-told _ _ (c .before .before .before .before .before .read-frame .ensures) NoRoom (c .before .enum-told .given .1) _ (c .frame-refusal .ensures)
+returns-2 c = read-told _ _ (c .before .before .before .before .before .read-frame .ensures) BadLent (c .before .enum-told .given .1) _ (c .frame-refusal .ensures)
 
 same-length-3 : tie.Need-same-length-3
 same-length-3 c = search needs

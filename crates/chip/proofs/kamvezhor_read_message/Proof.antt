@@ -6,7 +6,7 @@ use native.Mathlib.Omega.{arith}
 use borrow.Author.Needs.{needs}
 use Rattle.tree.specs.Fields.{mostOctets}
 use Rattle.message.specs.Reader.{listRoom}
-use Rattle.message.specs.declared.MessageRead.the-variants.{Read, SmallList, BadSize, UnknownType, Malformed}
+use Rattle.message.specs.declared.MessageRead.the-variants.{Read, BadLent, BadSize, UnknownType, Malformed}
 use Rattle.chip.proofs.MessageTold.{message-told, values-few}
 use Rattle.chip.proofs.kamvezhor_read_message.Statement.{statement}
 use Rattle.chip.proofs.kamvezhor_read_message.Tie as tie
@@ -72,7 +72,7 @@ same-length-2 : tie.Need-same-length-2
 same-length-2 c = search needs
 
 returns-2 : tie.Need-returns-2
-returns-2 c = message-told _ _ (c .before .before .before .before .before .read-octets .ensures) SmallList (c .before .enum-told .given .1) _ (c .message-refusal .ensures)
+returns-2 c = message-told _ _ (c .before .before .before .before .before .read-octets .ensures) BadLent (c .before .enum-told .given .1) _ (c .message-refusal .ensures)
 
 same-length-3 : tie.Need-same-length-3
 same-length-3 c = search needs

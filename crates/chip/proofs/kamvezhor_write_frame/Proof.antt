@@ -3,7 +3,7 @@
 use mathlib.Core.Path.{refl}
 use native.Mathlib.Omega.{arith}
 use borrow.Author.Needs.{needs}
-use Rattle.frame.specs.declared.FrameWritten.the-variants.{Bits, SmallOutput, BadLength, BadFlagCount}
+use Rattle.frame.specs.declared.FrameWritten.the-variants.{Bits, BadLent, BadLength, BadFlagCount}
 use Rattle.chip.proofs.FrameTold.{bits-few, write-told}
 use Rattle.chip.proofs.kamvezhor_write_frame.Statement.{statement}
 use Rattle.chip.proofs.kamvezhor_write_frame.Tie as tie
@@ -45,7 +45,7 @@ same-length-2 : tie.Need-same-length-2
 same-length-2 c = search needs
 
 returns-2 : tie.Need-returns-2
-returns-2 c = write-told _ _ _ (c .before .before .before .before .before .write-frame .ensures) SmallOutput (c .before .enum-told .given .1) _ (c .frame-refusal .ensures)
+returns-2 c = write-told _ _ _ (c .before .before .before .before .before .write-frame .ensures) BadLent (c .before .enum-told .given .1) _ (c .frame-refusal .ensures)
 
 same-length-3 : tie.Need-same-length-3
 same-length-3 c = search needs

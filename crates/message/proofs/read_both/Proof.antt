@@ -2,7 +2,7 @@
 -- Assumes nothing.
 use mathlib.Core.Path.{refl, _∙_}
 use borrow.Author.Needs.{needs}
-use Rattle.message.specs.declared.MessageRead.the-variants.{SmallList, BadSize, UnknownType, Malformed}
+use Rattle.message.specs.declared.MessageRead.the-variants.{BadLent, BadSize, UnknownType, Malformed}
 use Rattle.message.proofs.Checked.{size-refused, type-refused, form-refused}
 use Rattle.message.proofs.Parting.{room-read}
 use Rattle.message.proofs.Reading.{refuses, no-room, room-enough}
@@ -10,7 +10,7 @@ use Rattle.message.proofs.read_both.Statement.{statement}
 use Rattle.message.proofs.read_both.Tie as tie
 
 returns : tie.Need-returns
-returns c = refuses _ _ _ _ 1 SmallList (no-room _ _ (c .if1 .taken)) refl
+returns c = refuses _ _ _ _ 1 BadLent (no-room _ _ (c .if1 .taken)) refl
 
 check-message-requires : tie.Need-check-message-requires
 check-message-requires c κs = search needs

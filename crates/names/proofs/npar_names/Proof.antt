@@ -10,7 +10,7 @@ use lib.Dec.{eqb}
 use Rattle.octets.specs.Places.{pick}
 use Rattle.tree.specs.Codes.{codeOf, ofS}
 use Rattle.names.specs.Tables.{nparBlocks}
-use Rattle.names.specs.Named.{rowsUnder, isNamed}
+use Rattle.names.specs.Named.{printedUnder, isNamed}
 use Rattle.names.specs.Masks.{maskOf}
 use Rattle.names.proofs.Blocks.{every, mask-at, mask-zero, mask-low}
 use Rattle.names.proofs.npar_names.Statement.{statement}
@@ -20,14 +20,14 @@ add-if2 : tie.Need-add-if2
 add-if2 c = search needs
 
 returns : tie.Need-returns
-unfolding maskOf rowsUnder
+unfolding maskOf printedUnder
 returns c = mask-at isNamed nparBlocks (c .before .before .args .under) (codeOf 2 3 1 0) _ (omega arith) refl
 
 add-if3 : tie.Need-add-if3
 add-if3 c = search needs
 
 returns-2 : tie.Need-returns-2
-unfolding maskOf rowsUnder
+unfolding maskOf printedUnder
 returns-2 c = mask-at isNamed nparBlocks (c .before .before .before .args .under) (codeOf 2 8 1 0) _ (omega arith) refl
 
 returns-3 : tie.Need-returns-3
@@ -43,14 +43,14 @@ returns-4 c =
     (rw (ne-eqb _ _ (c .before .if1 .left), ne-eqb _ _ (c .if4 .taken)))
 
 returns-5 : tie.Need-returns-5
-unfolding maskOf rowsUnder
+unfolding maskOf printedUnder
 returns-5 c = mask-at isNamed nparBlocks (c .before .before .before .args .under) (codeOf 1 0 0 0) _ (omega arith) refl
 
 add-if6 : tie.Need-add-if6
 add-if6 c = search needs
 
 returns-6 : tie.Need-returns-6
-unfolding maskOf rowsUnder
+unfolding maskOf printedUnder
 returns-6 c = mask-at isNamed nparBlocks (c .before .before .before .before .args .under) (codeOf 1 1 0 0) _ (omega arith) refl
 
 returns-7 : tie.Need-returns-7

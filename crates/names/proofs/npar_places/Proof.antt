@@ -3,9 +3,9 @@
 use native.Mathlib.Omega.{arith}
 use borrow.Author.Needs.{needs}
 use Rattle.names.specs.Tables.{nparBlocks}
-use Rattle.names.specs.Named.{rowsUnder}
+use Rattle.names.specs.Named.{printedUnder}
 use Rattle.names.specs.Masks.{nparPlaces}
-use Rattle.names.proofs.Rows.{mask-named, mask-standard}
+use Rattle.names.proofs.Printings.{mask-named, mask-standard}
 use Rattle.names.proofs.npar_places.Statement.{statement}
 use Rattle.names.proofs.npar_places.Tie as tie
 
@@ -28,7 +28,7 @@ non-standards-requires : tie.Need-non-standards-requires
 non-standards-requires c κs = search needs
 
 sub-t7 : tie.Need-sub-t7
-sub-t7 c = omega (arith, c .before .npar-names2 .ensures, c .non-standards .ensures, mask-named (rowsUnder (c .before .before .before .before .args .under) nparBlocks))
+sub-t7 c = omega (arith, c .before .npar-names2 .ensures, c .non-standards .ensures, mask-named (printedUnder (c .before .before .before .before .args .under) nparBlocks))
 
 returns : tie.Need-returns
 unfolding nparPlaces

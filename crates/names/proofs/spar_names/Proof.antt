@@ -9,18 +9,18 @@ use lib.Dec.{eqb}
 use Rattle.octets.specs.Places.{pick}
 use Rattle.tree.specs.Codes.{codeOf}
 use Rattle.names.specs.Tables.{sparBlocks}
-use Rattle.names.specs.Named.{rowsUnder, isNamed}
+use Rattle.names.specs.Named.{printedUnder, isNamed}
 use Rattle.names.specs.Masks.{maskOf}
 use Rattle.names.proofs.Blocks.{every, mask-at, mask-zero}
 use Rattle.names.proofs.spar_names.Statement.{statement}
 use Rattle.names.proofs.spar_names.Tie as tie
 
 returns : tie.Need-returns
-unfolding maskOf rowsUnder
+unfolding maskOf printedUnder
 returns c = mask-at isNamed sparBlocks (c .before .args .under) (codeOf 1 0 0 0) _ (omega arith) refl
 
 returns-2 : tie.Need-returns-2
-unfolding maskOf rowsUnder
+unfolding maskOf printedUnder
 returns-2 c = mask-at isNamed sparBlocks (c .before .before .args .under) (codeOf 2 0 0 0) _ (omega arith) refl
 
 mul-if3 : tie.Need-mul-if3
@@ -30,7 +30,7 @@ add-if3 : tie.Need-add-if3
 add-if3 c = search needs
 
 returns-3 : tie.Need-returns-3
-unfolding maskOf rowsUnder
+unfolding maskOf printedUnder
 returns-3 c = mask-at isNamed sparBlocks (c .before .before .before .args .under) (codeOf 2 3 0 0) _ (omega arith) refl
 
 mul-if4 : tie.Need-mul-if4
@@ -40,7 +40,7 @@ add-if4 : tie.Need-add-if4
 add-if4 c = search needs
 
 returns-4 : tie.Need-returns-4
-unfolding maskOf rowsUnder
+unfolding maskOf printedUnder
 returns-4 c = mask-at isNamed sparBlocks (c .before .before .before .before .args .under) (codeOf 2 8 0 0) _ (omega arith) refl
 
 returns-5 : tie.Need-returns-5

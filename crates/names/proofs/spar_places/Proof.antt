@@ -2,7 +2,7 @@
 -- Assumes nothing.
 use borrow.Author.Needs.{needs}
 use Rattle.names.specs.Masks.{sparPlaces}
-use Rattle.names.proofs.Rows.{spar-standard}
+use Rattle.names.proofs.Printings.{spar-standard}
 use Rattle.names.proofs.spar_places.Statement.{statement}
 use Rattle.names.proofs.spar_places.Tie as tie
 
