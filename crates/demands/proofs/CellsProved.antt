@@ -19,6 +19,7 @@ use Rattle.table.specs.declared.Kind.{Kind}
 use Rattle.table.specs.declared.Kind.the-variants.{AtInitial, AtAskedE, AtAskedD, AtListsE, AtListsD, AtCounter, AtListed, AtTraded, AtPair, AtHalf, AtProposed, AtMode}
 use Rattle.table.specs.declared.Heard.{Heard}
 use Rattle.table.specs.declared.Heard.the-variants as came
+use Rattle.table.specs.declared.Signal.the-variants.{MrE, MrD, CrE, CrD}
 use Rattle.table.specs.declared.Act.{Act}
 use Rattle.table.specs.declared.Act.the-variants.{NoRow, Propose, SendCl, SendClr, PairClr, Take, Judge, GiveUp}
 use Rattle.table.specs.declared.After.the-variants.{ThenMs, ThenClMs, ThenCl, ThenHalf}

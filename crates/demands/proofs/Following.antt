@@ -26,17 +26,19 @@ use Rattle.table.specs.declared.Kind.{Kind}
 use Rattle.table.specs.declared.Kind.the-variants.{AtInitial, AtProposed, AtMode}
 use Rattle.table.specs.declared.Heard.{Heard}
 use Rattle.table.specs.declared.Act.{Act}
+use Rattle.table.specs.declared.Carried.{Carried}
+use Rattle.table.specs.declared.Signal.{Signal}
 use Rattle.table.specs.declared.Signal.the-variants.{MrE, MrD, CrE, CrD}
 use Rattle.table.specs.declared.Act.the-variants.{NoRow, SendSignal, CounterMrD, Propose, SendCl, SendClr, PairClr, Take, Judge, Agree, GiveUp, SendNak1}
 use Rattle.table.specs.declared.After.the-variants.{ThenMs, ThenClMs, ThenCl, ThenHalf}
 use Rattle.table.specs.declared.Settings.{Settings}
-use Rattle.table.specs.Phases.{kindOf, entryOf, ackOf, isOver}
-use Rattle.table.specs.Bound.{ifFound, leadsTo, isActed, Turn, GoesOn}
+use Rattle.table.specs.Phases.{carried, carriedBy, kindOf, entryOf, ackOf, isOver}
+use Rattle.table.specs.Bound.{ifFound, signalTo, leadsTo, isActed, Turn, GoesOn}
 use Rattle.table.proofs.FourEvents.{at-most-three}
 use Rattle.table.proofs.Lines.{each}
 use Rattle.station.specs.Sending.{sentList, noOffer}
 use Rattle.station.specs.Sorting.{Sort, known, strange, sortOf}
-use Rattle.station.specs.Acting.{Outcome, quiet, stays, farList, farOffer, storedList, proposes, proposesBehind, judges}
+use Rattle.station.specs.Acting.{Outcome, quiet, stays, farList, farOffer, storedList, proposes, proposesBehind, waiting, judges}
 use Rattle.station.specs.Stepping.{isLate, isReset, sorted, timed, checked, stepOf}
 use Rattle.table.specs.Phases.{isMode}
 use Rattle.station.specs.declared.FarOffer.{FarOffer}
@@ -180,11 +182,18 @@ module _ (P : Outcome → Type 0) (time : ℕ) (none : (stored : List ℕ) → P
   of-verdict zero m = ends-now _ refl refl
   of-verdict (suc k) m = ends-now _ refl refl
 
+-- behind a signal a phase waits that carries the time alone
+waits : (s : Signal) (time : ℕ) → carriedBy (waiting s time) ≡ carried (signalTo s) time 0 false
+waits MrE time = refl
+waits MrD time = refl
+waits CrE time = refl
+waits CrD time = refl
+
 -- and with refusal 10, of what every act does
 of-act : (P : Outcome → Type 0) (p : Phase) (g : Given) → P (quiet 10 p) → ((stored : List ℕ) → P (stays 11 stored (g .time)))
     → ((o : Outcome) → Success o (g .time) → P o) → (a : Act) → P (doing a p g)
 of-act P p g row none done NoRow = row
-of-act P p g row none done (SendSignal s) = ends-now P (g .time) none done _ refl refl
+of-act P p g row none done (SendSignal s) = ends-now P (g .time) none done _ refl (ap (λ (x : Carried). x .entry) (waits s (g .time)))
 of-act P p g row none done CounterMrD = ends-now P (g .time) none done _ refl refl
 of-act P p g row none done Propose = of-proposal P (g .time) none done (settled unheard g) (g .settings) noOffer (g .wishes) []
 of-act P p g row none done SendCl = ends-now P (g .time) none done _ refl refl
@@ -297,10 +306,7 @@ verdict-leads (suc k) m time = refl
 -- each act leads where the table's bound says
 pub act-leads : (a : Act) (p : Phase) (g : Given) → kindOf (doing a p g .next) ≡ leadsTo a (finds a g) (kindOf p)
 act-leads NoRow p g = refl
-act-leads (SendSignal MrE) p g = refl
-act-leads (SendSignal MrD) p g = refl
-act-leads (SendSignal CrE) p g = refl
-act-leads (SendSignal CrD) p g = refl
+act-leads (SendSignal s) p g = ap (λ (x : Carried). x .kind) (waits s (g .time))
 act-leads CounterMrD p g = refl
 act-leads Propose p g = proposal-leads (choiceBy unheard g) (g .settings) noOffer (g .wishes) [] (g .time)
 act-leads SendCl p g = refl

@@ -26,6 +26,7 @@ use Rattle.table.specs.declared.Kind.{Kind}
 use Rattle.table.specs.declared.Kind.the-variants.{AtProposed}
 use Rattle.table.specs.declared.Heard.{Heard}
 use Rattle.table.specs.declared.Act.{Act}
+use Rattle.table.specs.declared.Signal.the-variants.{MrE, MrD, CrE, CrD}
 use Rattle.table.specs.declared.Act.the-variants.{NoRow, SendSignal, CounterMrD, Propose, SendCl, SendClr, PairClr, Take, Judge, Agree, GiveUp, SendNak1}
 use Rattle.table.specs.declared.After.the-variants.{ThenMs, ThenClMs, ThenCl, ThenHalf}
 use Rattle.table.specs.declared.Settings.{Settings}
@@ -202,7 +203,10 @@ record Found (g : Given) (a : Act) : Type 0 where
 -- every act proposes or is another
 act-cases : (p : Phase) (g : Given) (a : Act) → Found g a ⊎ Other (doing a p g)
 act-cases p g NoRow = inr (idle-other (doing NoRow p g) refl)
-act-cases p g (SendSignal s) = inr (other (doing (SendSignal s) p g) refl refl)
+act-cases p g (SendSignal MrE) = inr (other (doing (SendSignal MrE) p g) refl refl)
+act-cases p g (SendSignal MrD) = inr (other (doing (SendSignal MrD) p g) refl refl)
+act-cases p g (SendSignal CrE) = inr (other (doing (SendSignal CrE) p g) refl refl)
+act-cases p g (SendSignal CrD) = inr (other (doing (SendSignal CrD) p g) refl refl)
 act-cases p g CounterMrD = inr (other (doing CounterMrD p g) refl refl)
 act-cases p g Propose = inl (record { far = unheard; acts = at-once })
 act-cases p g SendCl = inr (other (doing SendCl p g) refl refl)

@@ -124,7 +124,7 @@ module _ (p : Phase) (g : Given) (d : Due p g) where
       follows p g (record { due = d; heard = e })
       ∙ rw (spoilt-gets-nak1 (g .settings) (ackOf p) (kindOf p) ∙ awake-nak (kindOf p) (d .awake), nak-octet 1)
 
-  field-spoilt : (k : ℕ) → g .event ≡ Field → readMessage (g .field) 448 ≡ refused k → eqb k 3 ≡ false → steps p g ≡ sends (0x28 ∷ []) [] [] (Initial (g .time))
+  field-spoilt : (k : ℕ) → g .event ≡ events.Field → readMessage (g .field) 448 ≡ refused k → eqb k 3 ≡ false → steps p g ≡ sends (0x28 ∷ []) [] [] (Initial (g .time))
   field-spoilt k e r other = nak-sent (rw e (hears-spoilt (g .field) k r other .0))
 
   -- in every phase but Mode an invalid frame gives NAK(1) and Initial, and so does a field that the message reader refuses with 2 or 4
