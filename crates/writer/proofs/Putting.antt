@@ -31,7 +31,7 @@ use Rattle.meaning.proofs.Growing.{within-wider, cut-within, run-from}
 use Rattle.meaning.proofs.Meanings.{within-between, between-within}
 use Rattle.writer.proofs.Heads.{heads-next}
 use Rattle.writer.specs.declared.MessageWritten.the-variants.{Octets, TooLong}
-use Rattle.writer.specs.declared.Row.{Row}
+use Rattle.writer.specs.declared.Hand.{Hand}
 
 -- ---- octets put one after the other
 
@@ -114,7 +114,7 @@ pub skipped-next : (k a : ℕ) → skipped k a ++ (carried k a ∷ []) ≡ skipp
 skipped-next zero a = refl
 skipped-next (suc k) a = ap (λ (l : List ℕ). a ∷ l) (replicate-append-replicate k 1 0 ∙ ap (λ (n : ℕ). replicate n 0) (add-one k))
 
--- k octets were passed from a row of a block on, whose octet had a, the positions above p
+-- k octets were passed from a hand of a block on, whose octet had a, the positions above p
 abbrev pub Passed : ℕ → ℕ → ℕ → ℕ → List ℕ → ℕ → List ℕ → ℕ → ℕ → ℕ → Type 0
 Passed w k a p out₀ at₀ out at octet above = Puts (skipped k a) out₀ at₀ out at × (octet ≡ carried k a) × (above ≡ p + k * w)
 
@@ -206,12 +206,12 @@ between-behind x n l h e y = rw (slice-behind x n l e) (between-from x l h y)
 
 -- of the block of a list all but what the codes from place i on give was put. The last position put stands at the octet at hand, which
 -- has nothing above it
-pub record Blocking (w m step base : ℕ) (list : List ℕ) (i : ℕ) (out₀ : List ℕ) (at₀ : ℕ) (out : List ℕ) (row : Row) : Type 0 where
-  pub puts : Putting (blockOctets w m (positions step base list)) (blockFrom w m (row .above) (row .octet) (positions step base (drop i list))) out₀ at₀ out (row .at)
+pub record Blocking (w m step base : ℕ) (list : List ℕ) (i : ℕ) (out₀ : List ℕ) (at₀ : ℕ) (out : List ℕ) (hand : Hand) : Type 0 where
+  pub puts : Putting (blockOctets w m (positions step base list)) (blockFrom w m (hand .above) (hand .octet) (positions step base (drop i list))) out₀ at₀ out (hand .at)
   pub last : ℕ
-  pub reached : row .above ≤ last
-  pub near : last ≤ row .above + w
-  pub low : row .octet < 2 ^ (last - row .above)
+  pub reached : hand .above ≤ last
+  pub near : last ≤ hand .above + w
+  pub low : hand .octet < 2 ^ (last - hand .above)
   pub rest : Between (base + last * step) (base + 512 * step) (drop i list)
 
 -- nothing was put yet
@@ -227,7 +227,7 @@ blocking-none w m step base list out at x size h = record {
 }
 
 -- the code at place i, and its position q
-module _ {w m step base : ℕ} {list : List ℕ} {i : ℕ} {out₀ : List ℕ} {at₀ : ℕ} {out : List ℕ} {row : Row} (x : Blocking w m step base list i out₀ at₀ out row) (h : i < length list) where
+module _ {w m step base : ℕ} {list : List ℕ} {i : ℕ} {out₀ : List ℕ} {at₀ : ℕ} {out : List ℕ} {hand : Hand} (x : Blocking w m step base list i out₀ at₀ out hand) (h : i < length list) where
   here : Between (base + x .last * step) (base + 512 * step) (getD list i 0 ∷ drop (i + 1) list)
   here = rw (drop-next list i h) at (x .rest)
 
@@ -235,7 +235,7 @@ module _ {w m step base : ℕ} {list : List ℕ} {i : ℕ} {out₀ : List ℕ} {
   blocking-base = omega (arith, between-head here .0)
 
   -- it is no position of the block
-  pub blocking-miss : ((getD list i 0 - base) % step ≡ 0 → ⊥) → Blocking w m step base list (i + 1) out₀ at₀ out row
+  pub blocking-miss : ((getD list i 0 - base) % step ≡ 0 → ⊥) → Blocking w m step base list (i + 1) out₀ at₀ out hand
   unfolding positions
   blocking-miss k = record {
     puts = rw (drop-next list i h, ne-eqb _ _ k) at (x .puts);
@@ -258,37 +258,37 @@ module _ {w m step base : ℕ} {list : List ℕ} {i : ℕ} {out₀ : List ℕ} {
     blocking-most = lt-of-mul-lt-mul-right step (omega (arith, whole, between-head here))
 
     -- the octet at hand has no bit there
-    pub blocking-low : row .octet < 2 ^ (q - row .above - 1)
-    blocking-low = omega (arith, x .low, pow-mono {i = x .last - row .above} {j = q - row .above - 1} (omega (arith, x .reached, blocking-next)))
+    pub blocking-low : hand .octet < 2 ^ (q - hand .above - 1)
+    blocking-low = omega (arith, x .low, pow-mono {i = x .last - hand .above} {j = q - hand .above - 1} (omega (arith, x .reached, blocking-next)))
 
     -- and is put
-    pub blocking-hit : {out₁ : List ℕ} {row₁ : Row} → 0 < w → w ≤ 7
-        → Puts (skipped (passed w (row .above) q) (row .octet)) out (row .at) out₁ (row₁ .at) × (row₁ .above ≡ row .above + passed w (row .above) q * w) × (row₁ .octet ≡ carried (passed w (row .above) q) (row .octet) + 2 ^ ((q - row .above - 1) % w))
-        → Blocking w m step base list (i + 1) out₀ at₀ out₁ row₁
+    pub blocking-hit : {out₁ : List ℕ} {hand₁ : Hand} → 0 < w → w ≤ 7
+        → Puts (skipped (passed w (hand .above) q) (hand .octet)) out (hand .at) out₁ (hand₁ .at) × (hand₁ .above ≡ hand .above + passed w (hand .above) q * w) × (hand₁ .octet ≡ carried (passed w (hand .above) q) (hand .octet) + 2 ^ ((q - hand .above - 1) % w))
+        → Blocking w m step base list (i + 1) out₀ at₀ out₁ hand₁
     unfolding positions blockFrom
-    blocking-hit {row₁ = row₁} some few y =
-        let n = q - row .above - 1 in
+    blocking-hit {hand₁ = hand₁} some few y =
+        let n = q - hand .above - 1 in
         let split = mod-add-div' n w in
         let less = mod-lt n some in
-        let later : q ≡ row₁ .above + (n % w + 1) = omega (arith, y .1, x .reached, blocking-next) in
+        let later : q ≡ hand₁ .above + (n % w + 1) = omega (arith, y .1, x .reached, blocking-next) in
         record {
           puts = putting-turn (rw (drop-next list i h, eq-eqb _ _ k, ← is, ← (y .1), ← (y .2)) at (x .puts)) (y .0);
           last = q;
           reached = omega arith;
           near = omega arith;
-          low = let e : q - row₁ .above ≡ n % w + 1 = omega arith in rw (e, y .2) (bit w n (row .octet) some few blocking-low .above);
+          low = let e : q - hand₁ .above ≡ n % w + 1 = omega arith in rw (e, y .2) (bit w n (hand .octet) some few blocking-low .above);
           rest = between-wider (omega (arith, whole, blocking-base)) (omega arith) (between-rest here);
         }
 
 -- the last octet is put
-pub blocking-end : {w m step base : ℕ} {list : List ℕ} {i : ℕ} {out₀ : List ℕ} {at₀ : ℕ} {out : List ℕ} {row : Row} {out₁ : List ℕ} {at₁ : ℕ} → Blocking w m step base list i out₀ at₀ out row
-    → length list ≤ i → Puts ((row .octet + m) ∷ []) out (row .at) out₁ at₁ → Puts (blockOctets w m (positions step base list)) out₀ at₀ out₁ at₁
+pub blocking-end : {w m step base : ℕ} {list : List ℕ} {i : ℕ} {out₀ : List ℕ} {at₀ : ℕ} {out : List ℕ} {hand : Hand} {out₁ : List ℕ} {at₁ : ℕ} → Blocking w m step base list i out₀ at₀ out hand
+    → length list ≤ i → Puts ((hand .octet + m) ∷ []) out (hand .at) out₁ at₁ → Puts (blockOctets w m (positions step base list)) out₀ at₀ out₁ at₁
 unfolding positions blockFrom
 blocking-end {list = list} {i} x h y = putting-end (rw (drop-of-length-le list {i = i} h) at (x .puts)) y
 
 -- what it has and the delimiter fit an octet
-pub blocking-fits : {w m step base : ℕ} {list : List ℕ} {i : ℕ} {out₀ : List ℕ} {at₀ : ℕ} {out : List ℕ} {row : Row} → Blocking w m step base list i out₀ at₀ out row → m ≡ 2 ^ w → w ≤ 7 → row .octet + m < 256
-blocking-fits {w} {row = row} x e h = omega (arith, x .low, pow-mono {i = x .last - row .above} {j = w} (omega (arith, x .near)), pow-mono {i = w} {j = 7} h)
+pub blocking-fits : {w m step base : ℕ} {list : List ℕ} {i : ℕ} {out₀ : List ℕ} {at₀ : ℕ} {out : List ℕ} {hand : Hand} → Blocking w m step base list i out₀ at₀ out hand → m ≡ 2 ^ w → w ≤ 7 → hand .octet + m < 256
+blocking-fits {w} {hand = hand} x e h = omega (arith, x .low, pow-mono {i = x .last - hand .above} {j = w} (omega (arith, x .near)), pow-mono {i = w} {j = 7} h)
 
 -- ---- the blocks of a list head by head
 

@@ -169,15 +169,15 @@ fn put_octet(out: &mut [u8], at: usize, octet: u8) -> usize
     TOO_MANY
 }
 
-// Where the octet at hand goes, what it has so far, and the position below its first.
-struct Row {
+// The octet at hand: where it goes, what it has so far, and the position below its first.
+struct Hand {
     at: usize,
     octet: u8,
     above: u32,
 }
 
 // Passes octets of a block, count of them: the one at hand, and then such with nothing set.
-fn pass_octets(out: &mut [u8], start: Row, count: u32, w: u32) -> Row
+fn pass_octets(out: &mut [u8], start: Hand, count: u32, w: u32) -> Hand
     requires { ⌜ (length (now out) ≡ 64) × (start .at ≤ 65) × (start .above + count * w < 4294967296) ⌝ }
     ensures { λ r. ⌜ Puts (skipped count (start .octet)) (now (out .entry)) (start .at) (now (out .exit)) (r .at) × (r .octet ≡ carried count (start .octet)) × (r .above ≡ start .above + count * w) ⌝ }
 {
@@ -191,25 +191,25 @@ fn pass_octets(out: &mut [u8], start: Row, count: u32, w: u32) -> Row
         above += w;
         left -= 1;
     }
-    Row { at, octet, above }
+    Hand { at, octet, above }
 }
 
 // Puts the position q of a block with w positions to an octet, behind those that were put.
-fn put_position(out: &mut [u8], row: Row, q: u32, w: u32) -> Row
-    requires { ⌜ (length (now out) ≡ 64) × (row .at ≤ 65) × (row .above < q) × (q ≤ 511) × (0 < w) × (w ≤ 7) × (row .octet < 2 ^ (q - row .above - 1)) ⌝ }
-    ensures { λ r. ⌜ Puts (skipped (passed w (row .above) q) (row .octet)) (now (out .entry)) (row .at) (now (out .exit)) (r .at) × (r .above ≡ row .above + passed w (row .above) q * w) × (r .octet ≡ carried (passed w (row .above) q) (row .octet) + 2 ^ ((q - row .above - 1) % w)) ⌝ }
+fn put_position(out: &mut [u8], hand: Hand, q: u32, w: u32) -> Hand
+    requires { ⌜ (length (now out) ≡ 64) × (hand .at ≤ 65) × (hand .above < q) × (q ≤ 511) × (0 < w) × (w ≤ 7) × (hand .octet < 2 ^ (q - hand .above - 1)) ⌝ }
+    ensures { λ r. ⌜ Puts (skipped (passed w (hand .above) q) (hand .octet)) (now (out .entry)) (hand .at) (now (out .exit)) (r .at) × (r .above ≡ hand .above + passed w (hand .above) q * w) × (r .octet ≡ carried (passed w (hand .above) q) (hand .octet) + 2 ^ ((q - hand .above - 1) % w)) ⌝ }
 {
-    let ahead = q - row.above - 1;
+    let ahead = q - hand.above - 1;
     // most positions stand in the octet at hand, and need no division
     if ahead < w {
-        return Row {
-            at: row.at,
-            octet: row.octet + (1u8 << ahead),
-            above: row.above,
+        return Hand {
+            at: hand.at,
+            octet: hand.octet + (1u8 << ahead),
+            above: hand.above,
         };
     }
-    let next = pass_octets(out, row, ahead / w, w);
-    Row {
+    let next = pass_octets(out, hand, ahead / w, w);
+    Hand {
         at: next.at,
         octet: next.octet + (1u8 << (ahead % w)),
         above: next.above,
@@ -217,20 +217,12 @@ fn put_position(out: &mut [u8], row: Row, q: u32, w: u32) -> Row
 }
 
 // Puts the minimal block of those codes of a list that stand a multiple of a step above a base, w positions to an octet, with
-// the delimiter m in its last.
-fn put_block(
-    list: &[u32],
-    base: u32,
-    step: u32,
-    w: u32,
-    m: u8,
-    out: &mut [u8],
-    start: usize,
-) -> usize
-    requires { ⌜ Between base (base + 512 * step) (now list) × (0 < step) × (base + 512 * step < 4294967296) × (m ≡ 2 ^ w) × (6 ≤ w) × (w ≤ 7) × (length (now out) ≡ 64) × (start ≤ 65) ⌝ }
-    ensures { λ r. ⌜ Puts (blockOctets w m (positions step base (now (list .entry)))) (now (out .entry)) start (now (out .exit)) r ⌝ }
+// the bit behind those as the delimiter in its last.
+fn put_block(list: &[u32], base: u32, step: u32, w: u32, out: &mut [u8], start: usize) -> usize
+    requires { ⌜ Between base (base + 512 * step) (now list) × (0 < step) × (base + 512 * step < 4294967296) × (6 ≤ w) × (w ≤ 7) × (length (now out) ≡ 64) × (start ≤ 65) ⌝ }
+    ensures { λ r. ⌜ Puts (blockOctets w (2 ^ w) (positions step base (now (list .entry)))) (now (out .entry)) start (now (out .exit)) r ⌝ }
 {
-    let mut row = Row {
+    let mut hand = Hand {
         at: start,
         octet: 0,
         above: 0,
@@ -240,10 +232,10 @@ fn put_block(
         let apart = list[i] - base;
         i += 1;
         if apart % step == 0 {
-            row = put_position(out, row, apart / step, w);
+            hand = put_position(out, hand, apart / step, w);
         }
     }
-    put_octet(out, row.at, row.octet + m)
+    put_octet(out, hand.at, hand.octet + (1u8 << w))
 }
 
 // How many codes below a limit a list begins with.
@@ -272,7 +264,7 @@ fn put_lower(list: &[u32], head: u32, out: &mut [u8], start: usize) -> usize
     if n == 0 {
         return start;
     }
-    put_block(&list[0..n], head, OF_T, 6, 64, out, start)
+    put_block(&list[0..n], head, OF_T, 6, out, start)
 }
 
 // Whether no SPar(2) of the same SPar(1) follows.
@@ -296,7 +288,7 @@ fn put_pars(list: &[u32], out: &mut [u8], start: usize) -> usize
         let head = list[i];
         let rest = &list[i + 1..];
         let n = run_length(rest, head + OF_T);
-        at = put_block(&rest[0..n], head, 1, 6, 64, out, at);
+        at = put_block(&rest[0..n], head, 1, 6, out, at);
         i = i + 1 + n;
         at = put_lower(&list[i..], head, out, at);
         if ends_par(list, i) {
@@ -313,8 +305,8 @@ fn put_field(list: &[u32], base: u32, out: &mut [u8], start: usize) -> usize
 {
     let n = run_length(list, base + OF_T);
     let rest = &list[n..];
-    let first = put_block(&list[0..n], base, 1, 7, 128, out, start);
-    let second = put_block(rest, base, OF_S, 7, 128, out, first);
+    let first = put_block(&list[0..n], base, 1, 7, out, start);
+    let second = put_block(rest, base, OF_S, 7, out, first);
     put_pars(rest, out, second)
 }
 

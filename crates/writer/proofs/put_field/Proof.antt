@@ -36,11 +36,11 @@ part-put-block-end c = search needs
 
 put-block-requires : tie.Need-put-block-requires
 put-block-requires c κs = let r = c .before .before .before in let s = r .before .before .before in
-    (between-front _ _ _ (r .run-length .ensures .0) (s .pre .0), omega arith, omega (arith, s .pre .1), refl, omega arith, omega arith, s .pre .2, s .pre .3)
+    (between-front _ _ _ (r .run-length .ensures .0) (s .pre .0), omega arith, omega (arith, s .pre .1), omega arith, omega arith, s .pre .2, s .pre .3)
 
 put-block-requires-2 : tie.Need-put-block-requires-2
 put-block-requires-2 c κs = let p = c .before .before .before in let r = p .before .before .before .before in let s = r .before .before .before in
-    (between-behind _ _ _ (omega arith) (r .run-length .ensures .0) (s .pre .0), omega arith, omega (arith, s .pre .1), refl, omega arith, omega arith, p .put-block .ensures .size, puts-most (p .put-block .ensures))
+    (between-behind _ _ _ (omega arith) (r .run-length .ensures .0) (s .pre .0), omega arith, omega (arith, s .pre .1), omega arith, omega arith, p .put-block .ensures .size, puts-most (p .put-block .ensures))
 
 put-pars-requires : tie.Need-put-pars-requires
 put-pars-requires c κs = let q = c .before .before .before in let r = q .before .before .before .before .before .before .before .before in let s = r .before .before .before in

@@ -36,7 +36,7 @@ part-put-block-end c = search needs
 
 put-block-requires : tie.Need-put-block-requires
 put-block-requires c κs = let r = c .before .before .before in let s = r .before .before .before .before in
-    (between-front _ _ _ (r .run-length .ensures .0) (s .pre .0), omega arith, omega (arith, s .pre .1), refl, omega arith, omega arith, s .pre .2, s .pre .3)
+    (between-front _ _ _ (r .run-length .ensures .0) (s .pre .0), omega arith, omega (arith, s .pre .1), omega arith, omega arith, s .pre .2, s .pre .3)
 
 same-length : tie.Need-same-length
 same-length c = search needs

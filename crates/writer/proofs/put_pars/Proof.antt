@@ -56,7 +56,7 @@ part-put-block-end c = omega arith
 
 put-block-requires : tie.Need-put-block-requires Inv-loop μ-loop
 put-block-requires c κs = let r = c .before .before in let t = r .before .before .before in let x = t .before .loop .inv in let h = t .loop-test .taken in
-    (parting-under x h (r .run-length .ensures .0), omega arith, omega (arith, parting-head x h), refl, omega arith, omega arith, x .puts .puts .size, puts-most (x .puts .puts))
+    (parting-under x h (r .run-length .ensures .0), omega arith, omega (arith, parting-head x h), omega arith, omega arith, x .puts .puts .size, puts-most (x .puts .puts))
 
 add-i : tie.Need-add-i Inv-loop μ-loop
 add-i c = omega arith

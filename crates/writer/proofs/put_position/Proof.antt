@@ -11,14 +11,14 @@ use Rattle.writer.proofs.put_position.Statement.{statement}
 use Rattle.writer.proofs.put_position.Tie as tie
 
 -- the position's bit
-bit-of : (c : tie.Start) → let a = c .args in Bit (a .w) (a .q - a .row .above - 1) (a .row .octet)
+bit-of : (c : tie.Start) → let a = c .args in Bit (a .w) (a .q - a .hand .above - 1) (a .hand .octet)
 bit-of c = bit _ _ _ (c .pre .4) (c .pre .5) (c .pre .6)
 
 -- a position in the octet at hand: none is passed
-none : (c : tie.Then1) → let a = c .before .before .before .args in (a .q - a .row .above - 1) / a .w ≡ 0
+none : (c : tie.Then1) → let a = c .before .before .before .args in (a .q - a .hand .above - 1) / a .w ≡ 0
 none c = div-eq-of-lt (c .if1 .taken)
 
-near : (c : tie.Then1) → let a = c .before .before .before .args in (a .q - a .row .above - 1) % a .w ≡ a .q - a .row .above - 1
+near : (c : tie.Then1) → let a = c .before .before .before .args in (a .q - a .hand .above - 1) % a .w ≡ a .q - a .hand .above - 1
 near c = mod-eq-of-lt (c .if1 .taken)
 
 sub-ahead : tie.Need-sub-ahead
@@ -37,7 +37,7 @@ add-t11 : tie.Need-add-t11
 add-t11 c = let t = c .before in let s = t .before .before .before in let a = s .args in let b = bit-of s in
     let kept = rw (near t) at (b .kept) in
     let above = rw (none t, near t) at (b .above) in
-    omega (arith, pow-mono {i = a .q - a .row .above - 1 + 1} {j = 7} (omega (arith, t .if1 .taken, s .pre .5)))
+    omega (arith, pow-mono {i = a .q - a .hand .above - 1 + 1} {j = 7} (omega (arith, t .if1 .taken, s .pre .5)))
 
 returns : tie.Need-returns
 returns c = let t = c .before in let s = t .before .before .before in
@@ -49,7 +49,7 @@ div-pass-octets c = search needs
 
 pass-octets-requires : tie.Need-pass-octets-requires
 pass-octets-requires c κs = let s = c .before .before .before .before in let a = s .args in
-    (s .pre .0, s .pre .1, omega (arith, div-mul-le-self (a .q - a .row .above - 1) (a .w)))
+    (s .pre .0, s .pre .1, omega (arith, div-mul-le-self (a .q - a .hand .above - 1) (a .w)))
 
 rem-t7 : tie.Need-rem-t7
 rem-t7 c = search needs
@@ -62,7 +62,7 @@ shl-t15 c = omega (arith, bit-of (c .before .before .before .before .before .bef
 
 add-t16 : tie.Need-add-t16
 add-t16 c = let p = c .before .before .before in let s = p .before .before .before .before .before in let a = s .args in let b = bit-of s in
-    omega (arith, p .pass-octets .ensures .1, pow-mono {i = (a .q - a .row .above - 1) % a .w + 1} {j = 7} (omega arith))
+    omega (arith, p .pass-octets .ensures .1, pow-mono {i = (a .q - a .hand .above - 1) % a .w + 1} {j = 7} (omega arith))
 
 same-length : tie.Need-same-length
 same-length c = search needs
