@@ -3,10 +3,12 @@
 use Prim.Native.Nat.{ℕ, zero, suc}
 use mathlib.Core.Path.{_≡_, refl}
 use mathlib.Core.List.{List, [], _∷_, _++_}
+use lib.ListN.{replicate}
 use Rattle.tree.specs.Block.{setBits, blockNumbers, blockEnd}
 use Rattle.tree.specs.Codes.{subCodes, subsBehind, groupCodes, groupBehind, parCodes, parsBehind, restCodes, restBehind, fieldCodes, fieldBehind}
 use Rattle.tree.specs.Form.{blockForm, subsForm, groupForm, parsForm, restForm, fieldForm}
 use Rattle.tree.specs.Fields.{codesIn, isIn, allIn, hasSpar}
+use Rattle.tree.specs.Wide.{lowFits, fieldFits, codesWide}
 use Rattle.tree.specs.declared.Field.the-variants.{Standard}
 use Rattle.meaning.specs.Minimal.{fullAtEnd, tight, subsMinimal, groupMinimal, parsMinimal, fieldMinimal}
 use Rattle.names.specs.Named.{printedUnder, printedAt, printedOf}
@@ -42,6 +44,10 @@ nothing = 0x80 ∷ 0x80 ∷ []
 abbrev far : List ℕ
 far = 0x22 ∷ 0x81 ∷ 0x80 ∷ 0x80 ∷ 0xa1 ∷ 0x02 ∷ 0xd0 ∷ 0xc0 ∷ []
 
+-- the wish's field with so many octets and a last one more in its NPar(2)
+abbrev long : ℕ → ℕ → List ℕ
+long more last = 0x80 ∷ 0x81 ∷ 0x02 ∷ 0x10 ∷ (replicate more 0 ++ last ∷ [])
+
 -- the wish with this number, its field at a place of the run
 abbrev one : ℕ → ℕ → Pick
 one number at = record { number = number; at = at; length = 4 }
@@ -69,6 +75,9 @@ pub record Positions : Type 0 where
   pub unready : choice (standardCodes wide) (farCodes far 3) otherWish ≡ refused 11
   pub not-own : choice (standardCodes nothing) (farCodes far 3) readyWish ≡ refused 11
   pub not-far : choice (standardCodes wide) (farCodes nothing 0) readyWish ≡ refused 11
+  -- a far field of 68 octets that has it, and one of 88 with position 512 besides
+  pub long-far : choice (standardCodes wide) (farCodes (long 63 0xc0) 0) readyWish ≡ chosen (one 1 2)
+  pub too-far : choice (standardCodes wide) (farCodes (long 83 0xc2) 0) readyWish ≡ refused 11
   pub unlisted : choice [] unheard readyWish ≡ chosen (one 1 2)
   -- MS 21 80 80 80 81 02 D8 is NAK(3), and 21 89 80 80 81 02 D0 is accepted; to a wish not ready NAK(2)
   pub no-fit : judged (0x21 ∷ 0x80 ∷ 0x80 ∷ 0x80 ∷ 0x81 ∷ 0x02 ∷ 0xd8 ∷ []) readyWish ≡ 3
@@ -77,7 +86,7 @@ pub record Positions : Type 0 where
   pub empty : judged (0x21 ∷ 0x89 ∷ 0x80 ∷ 0x80 ∷ 0x80 ∷ []) readyWish ≡ 3
 
 pub positions : Positions
-unfolding setBits blockNumbers blockEnd subCodes subsBehind groupCodes groupBehind parCodes parsBehind restCodes restBehind fieldCodes fieldBehind blockForm subsForm groupForm parsForm restForm fieldForm codesIn isIn allIn hasSpar fullAtEnd tight subsMinimal groupMinimal parsMinimal fieldMinimal printedUnder printedAt printedOf allStandard goodField wishesIn goodRecords allInside tablesNo firstSuiting choice fitsSome fitsReady verdict
+unfolding setBits blockNumbers blockEnd subCodes subsBehind groupCodes groupBehind parCodes parsBehind restCodes restBehind fieldCodes fieldBehind blockForm subsForm groupForm parsForm restForm fieldForm codesIn isIn allIn hasSpar lowFits fieldFits codesWide fullAtEnd tight subsMinimal groupMinimal parsMinimal fieldMinimal rowsUnder rowAt rowOf allStandard goodField wishesIn goodRecords allInside tablesNo firstSuiting choice fitsSome fitsReady verdict
 positions =
     record {
       good = refl;
@@ -95,6 +104,8 @@ positions =
       unready = refl;
       not-own = refl;
       not-far = refl;
+      long-far = refl;
+      too-far = refl;
       unlisted = refl;
       no-fit = refl;
       accepted = refl;

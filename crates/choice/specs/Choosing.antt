@@ -7,7 +7,8 @@ use mathlib.Core.List.{List, [], _∷_, _++_, List·Memᴰ}
 use mathlib.Core.Path.{_≡_}
 use lib.ListN.{length, take, drop}
 use Rattle.octets.specs.Places.{pick, both}
-use Rattle.tree.specs.Fields.{allIn, codesIn}
+use Rattle.tree.specs.Fields.{allIn}
+use Rattle.tree.specs.Wide.{codesWide}
 use Rattle.tree.specs.declared.Field.the-variants.{Standard}
 use Rattle.choice.specs.Wishes.{Wish, mostWishes, wishesOf, wishCodes}
 use Rattle.choice.specs.declared.Choice.{Choice}
@@ -50,9 +51,9 @@ firstSuiting own far (w ∷ ws) n at =
 unfoldable pub choice : List ℕ → Far → List ℕ → Choosing
 choice own far run = firstSuiting own far (wishesOf run) 0 0
 
--- the codes of a far list whose standard field begins at a place of its octets
+-- the codes of a far list whose standard field begins at a place of its octets, of which there may be more than a message has
 abbrev pub farCodes : List ℕ → ℕ → Far
-farCodes octets at = heard (codesIn Standard octets at)
+farCodes octets at = heard (codesWide Standard octets at)
 
 -- the first wish that suits: none before it does; its number counts from 1, and its field lies in the run where the choice says
 pub record First (own : List ℕ) (far : Far) (run : List ℕ) (p : Pick) : Type 0 where

@@ -6,6 +6,7 @@ ghost use Prim.Native.Nat.{_≤_, _<_};
 ghost use lib.ListN.{length};
 ghost use Rattle.octets.specs.Places.{pick, both};
 ghost use Rattle.tree.specs.Fields.{allIn, codesIn, hasSpar};
+ghost use Rattle.tree.specs.Wide.{codesWide};
 ghost use Rattle.choice.specs.Wishes.{wishesOf, goodWish, goodWishes, standardCodes};
 ghost use Rattle.choice.specs.Tables.{allInside};
 ghost use Rattle.choice.specs.Choosing.{common, suits, choice, choiceTold};
@@ -15,6 +16,7 @@ use good::is_good;
 use tree::Field;
 use tree::has_spar;
 use within::lies_within;
+use within::lies_within_far;
 
 // The most wishes.
 const MOST_WISHES: usize = 16;
@@ -174,12 +176,12 @@ pub fn check_tables(own: &[u8], run: &[u8]) -> Tables
 
 // Whether all parameters of a wish's field are in both the own table and the far list, whose standard field begins at a place.
 fn is_common(own: &[u8], field: &[u8], far: &[u8], place: usize) -> bool
-    ensures { λ r. ⌜ r ≡ common (standardCodes (now (own .entry))) (codesIn Field.Standard (now (far .entry)) place) (standardCodes (now (field .entry))) ⌝ }
+    ensures { λ r. ⌜ r ≡ common (standardCodes (now (own .entry))) (codesWide Field.Standard (now (far .entry)) place) (standardCodes (now (field .entry))) ⌝ }
 {
     if !lies_within(field, 0, own, 0, Field::Standard) {
         return false;
     }
-    lies_within(field, 0, far, place, Field::Standard)
+    lies_within_far(field, 0, far, place, Field::Standard)
 }
 
 // Whether a wish may be proposed.

@@ -63,10 +63,12 @@ demand-one =
       top-behind = λ s e. by-equation;
       block-behind = λ s e. by-equation;
       group-behind = λ s e. by-equation;
+      field-fits = λ s at. by-equation;
       fill-fields = λ s i j list octets r r′ list₁ list₁′ octets₁ octets₁′ a b.
           (unique.one-reply (a .count) (b .count), unique.one-reply (a .list) (b .list), unique.one-reply (a .octets) (b .octets));
       has-first = λ s at field q. by-equation;
       lies-within = λ s i t j field. by-equation;
+      lies-within-far = λ s i t j field. by-equation;
       is-known = λ kind. by-equation;
       has-fields = λ kind. by-equation;
       ns-form = λ s start. by-equation;

@@ -16,11 +16,11 @@ use Rattle.frame.specs.Reader as frameReader
 use Rattle.frame.specs.Writer as frameWriter
 use Rattle.frame.specs.declared.FrameRead.{FrameRead}
 use Rattle.frame.specs.declared.FrameWritten.{FrameWritten}
-use Rattle.tree.specs.Contracts.{TellsBit8, MarksLast, TellsFine, TellsForm, TellsEnd, TellsBase, TellsSpar, TellsTopBehind, TellsBlockBehind, TellsGroupBehind}
+use Rattle.tree.specs.Contracts.{TellsBit8, MarksLast, TellsFine, TellsForm, TellsEnd, TellsBase, TellsSpar, TellsTopBehind, TellsBlockBehind, TellsGroupBehind, TellsFits}
 use Rattle.tree.specs.declared.Field.{Field}
 use Rattle.tree.specs.declared.Form.{Form}
 use Rattle.fill.specs.Contracts.{FillsFields}
-use Rattle.within.specs.Contracts.{TellsFirst, TellsWithin}
+use Rattle.within.specs.Contracts.{TellsFirst, TellsWithin, TellsWithinFar}
 use Rattle.message.specs.Contracts.{TellsKnown, TellsFields, TellsNsForm, Checks, TellsNs}
 use Rattle.message.specs.Reader.{nsTold}
 use Rattle.message.specs.Reader as messageReader
@@ -88,12 +88,14 @@ pub record DemandOne : Type 0 where
   pub top-behind : (s : List ℕ) (e : ℕ) → OneReply (TellsTopBehind s e)
   pub block-behind : (s : List ℕ) (e : ℕ) → OneReply (TellsBlockBehind s e)
   pub group-behind : (s : List ℕ) (e : ℕ) → OneReply (TellsGroupBehind s e)
+  pub field-fits : (s : List ℕ) (at : ℕ) → OneReply (TellsFits s at)
   -- one reply, and one content of either list
   pub fill-fields : (s : List ℕ) (i j : ℕ) (list octets : List ℕ) (r r′ : ℕ) (list₁ list₁′ octets₁ octets₁′ : List ℕ)
       → FillsFields s i j list octets r list₁ octets₁ → FillsFields s i j list octets r′ list₁′ octets₁′
       → (r ≡ r′) × (list₁ ≡ list₁′) × (octets₁ ≡ octets₁′)
   pub has-first : (s : List ℕ) (at : ℕ) (field : Field) (q : ℕ) → OneReply (TellsFirst s at field q)
   pub lies-within : (s : List ℕ) (i : ℕ) (t : List ℕ) (j : ℕ) (field : Field) → OneReply (TellsWithin s i t j field)
+  pub lies-within-far : (s : List ℕ) (i : ℕ) (t : List ℕ) (j : ℕ) (field : Field) → OneReply (TellsWithinFar s i t j field)
   -- Messages
   pub is-known : (kind : ℕ) → OneReply (TellsKnown kind)
   pub has-fields : (kind : ℕ) → OneReply (TellsFields kind)

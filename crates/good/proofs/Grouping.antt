@@ -9,18 +9,17 @@ use native.Mathlib.Nat.{div-eq-of-lt}
 use native.Mathlib.Omega.{arith}
 use borrow.Author.Tests.{ltb-true, ltb-false, eq-eqb, ne-eqb, eqb-true, eqb-false}
 use lib.Dec.{ltb, eqb}
-use lib.ListN.{length, getD, drop, length-drop}
+use lib.ListN.{length, getD, drop}
 use lib.Pow.{pow-mono}
 use lib.Seq.{getD-drop}
 use Rattle.tree.specs.Codes.{ofF}
 use Rattle.octets.specs.Bits.{num, odd}
 use Rattle.octets.specs.Places.{pick}
 use Rattle.tree.specs.Block.{setBits, blockNumbers, numbers, announced}
+use Rattle.tree.specs.Order.{Ascending}
+use Rattle.tree.proofs.Ascending.{numbers-ascending}
 use Rattle.tree.proofs.Lowest.{lowest, bits-none, bits-below}
-use Rattle.meaning.proofs.Reading.{rising-at}
-use Rattle.meaning.proofs.Blocks.{rising-numbers}
 use Rattle.octets.proofs.Laws.{both-true}
-use Rattle.meaning.proofs.Trees.{Rising}
 use Rattle.names.specs.Tables.{sparBlocks}
 use Rattle.names.specs.Named.{printedUnder, isStandard}
 use Rattle.names.specs.Masks.{maskOf, sparPlaces}
@@ -48,9 +47,9 @@ lowest-named n q h e = go (ltb 1 q) refl
         absurd (omega (arith, ap num (rw z at e)))
     go false f = ltb-false 1 q f
 
--- so positions that rise are none or the first
-named-few : (n : ℕ) (ts : List ℕ) → n < 2 → Rising 0 ts → allNamed n ts ≡ true → (ts ≡ []) ⊎ (ts ≡ 1 ∷ [])
-unfolding Rising allNamed
+-- so positions that ascend are none or the first
+named-few : (n : ℕ) (ts : List ℕ) → n < 2 → Ascending 0 ts → allNamed n ts ≡ true → (ts ≡ []) ⊎ (ts ≡ 1 ∷ [])
+unfolding Ascending allNamed
 named-few n [] h r e = inl refl
 named-few n (t ∷ []) h r e =
     let one : t ≡ 1 = omega (arith, r .0, lowest-named n t h (both-true (odd (n / 2 ^ (t - 1))) true e .0)) in
@@ -58,7 +57,7 @@ named-few n (t ∷ []) h r e =
 named-few n (t ∷ u ∷ ts) h r e =
     let p = both-true (odd (n / 2 ^ (t - 1))) _ e in
     let q = both-true (odd (n / 2 ^ (u - 1))) _ (p .1) in
-    absurd (omega (arith, r .0, r .2 .0, lowest-named n u h (q .0)))
+    absurd (omega (arith, r .0, r .1 .0, lowest-named n u h (q .0)))
 
 -- ---- whether it is set
 
@@ -70,10 +69,10 @@ octet-none : (o : ℕ) → o % 64 ≡ 0 → setBits 6 0 o ≡ []
 octet-none o h = sym (bits-below 6 0 o) ∙ ap (setBits 6 0) h ∙ bits-none 6 0
 
 -- so the first octet of a block tells whether the first position is set, where no other may be
-first-set : (r : List ℕ) → length r ≤ 64 → (blockNumbers 6 64 0 r ≡ []) ⊎ (blockNumbers 6 64 0 r ≡ 1 ∷ []) → eqb (getD r 0 0 % 64) 0 ≡ eqb (length (blockNumbers 6 64 0 r)) 0
-unfolding blockNumbers Rising
-first-set [] h s = refl
-first-set (o ∷ r) h s =
+first-set : (r : List ℕ) → (blockNumbers 6 64 0 r ≡ []) ⊎ (blockNumbers 6 64 0 r ≡ 1 ∷ []) → eqb (getD r 0 0 % 64) 0 ≡ eqb (length (blockNumbers 6 64 0 r)) 0
+unfolding blockNumbers Ascending
+first-set [] s = refl
+first-set (o ∷ r) s =
     ⊎-elim
     (λ e. rw e (eq-eqb (o % 64) 0 (empty (eqb (o % 64) 0) refl (setBits 6 0 o) refl e)))
     (λ e. rw e (ne-eqb (o % 64) 0 (λ z. first (ltb o 64) (rw (octet-none o z) at e))))
@@ -88,17 +87,17 @@ first-set (o ∷ r) h s =
     empty false e (b ∷ bits) f k = absurd (omega (arith, ap length k))
 
     first : (t : Bool) → rest t ≡ 1 ∷ [] → ⊥
-    first true e = omega (arith, (rw e at (rising-numbers 6 64 6 r (omega arith))) .0)
+    first true e = omega (arith, (rw e at (numbers-ascending 6 64 6 r 0)) .0)
     first false e = omega (arith, ap length e)
 
-module _ (l : List ℕ) (short : length l ≤ 64) (c e : ℕ) (u : 0 < c % ofF) (h : allNamed (sparBits c) (numbers 6 64 0 l e) ≡ true) where
+module _ (l : List ℕ) (c e : ℕ) (u : 0 < c % ofF) (h : allNamed (sparBits c) (numbers 6 64 0 l e) ≡ true) where
   -- the SPar(2) positions that are all standard are none or the first
   pub sub-few : (numbers 6 64 0 l e ≡ []) ⊎ (numbers 6 64 0 l e ≡ 1 ∷ [])
-  sub-few = named-few (sparBits c) (numbers 6 64 0 l e) (first-only c u) (rising-at l short 6 64 e (omega arith)) h
+  sub-few = named-few (sparBits c) (numbers 6 64 0 l e) (first-only c u) (numbers-ascending 6 64 0 l e) h
 
   -- which the first octet tells
   pub sub-set : eqb (getD l e 0 % 64) 0 ≡ eqb (announced 6 64 l e) 0
   sub-set =
       let at : e + 0 ≡ e = omega arith in
       let same : getD (drop e l) 0 0 ≡ getD l e 0 = rw at at (getD-drop e l 0 0) in
-      rw same at (first-set (drop e l) (omega (arith, length-drop e l)) sub-few)
+      rw same at (first-set (drop e l) sub-few)

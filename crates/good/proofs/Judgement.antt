@@ -138,8 +138,8 @@ module _ (l : List ℕ) (short : length l ≤ 64) where
           → both (both F (isFine (subsForm (length ts) l x))) (both (both (not (eqb (length ts) 0)) (both T (subsMinimal (length ts) l x))) s)
           ≡ both (not (eqb (getD l e 0 % 64) 0)) (both (both F (both T v)) G)
       go true f s h =
-          rw (sub-set l short c e u f)
-          (⊎-elim (λ (z : ts ≡ []). rw z (both-none (both F (isFine (subsForm 0 l x))))) (λ (z : ts ≡ 1 ∷ []). rw (← h, z) (first z)) (sub-few l short c e u f))
+          rw (sub-set l c e u f)
+          (⊎-elim (λ (z : ts ≡ []). rw z (both-none (both F (isFine (subsForm 0 l x))))) (λ (z : ts ≡ 1 ∷ []). rw (← h, z) (first z)) (sub-few l c e u f))
         where
           first : ts ≡ 1 ∷ []
               → both (both F (isFine (subsForm 1 l x))) (both (both T (both (tightAt 64 l x) true)) (both (standardCode (c + 1 * 512)) (allStandard (numbers 6 64 (c + 1 * 512) l x ++ []))))

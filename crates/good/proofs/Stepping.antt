@@ -107,14 +107,14 @@ module _ (c : ℕ) (l : List ℕ) (e : ℕ) where
       group-bad z = rw (group-open, block-bad 6 64 (sparBits c) l e here z, both-none (not (eqb (getD l e 0 % 64) 0)))
 
       -- it is, and an NPar(3) block follows
-      pub group-on : length l ≤ 64 → 0 < c % ofF → (getD l e 0 % 64 ≡ 0 → ⊥) → (r ≡ 0 → ⊥) → {q : Places} {v : ℕ} → q ≡ nparPlaces Standard (c + 512)
+      pub group-on : 0 < c % ofF → (getD l e 0 % 64 ≡ 0 → ⊥) → (r ≡ 0 → ⊥) → {q : Places} {v : ℕ} → q ≡ nparPlaces Standard (c + 512)
           → v ≡ pick (goodSub (q .bits) l r) (behind 64 l r) 0 → v ≡ groupJudged
       unfolding groupBehind subsBehind
-      group-on short u k z {q} {v} n f =
+      group-on u k z {q} {v} n f =
           let g = block-well 6 64 (sparBits c) l e here z in
           let all = both-true (tightAt 64 l e) _ (both-true (isFine (formAt 64 l e)) _ (g .0) .1) .1 in
           let set : eqb (getD l e 0 % 64) 0 ≡ false = ne-eqb _ 0 k in
-          let one : numbers 6 64 0 l e ≡ 1 ∷ [] = ⊎-elim (λ (x : numbers 6 64 0 l e ≡ []). absurd (omega (arith, ap num (rw (set, x) at (sub-set l short c e u all))))) (λ x. x) (sub-few l short c e u all) in
+          let one : numbers 6 64 0 l e ≡ 1 ∷ [] = ⊎-elim (λ (x : numbers 6 64 0 l e ≡ []). absurd (omega (arith, ap num (rw (set, x) at (sub-set l c e u all))))) (λ x. x) (sub-few l c e u all) in
           rw (n, g .1) at f ∙ rw (group-open, set, g .0, h, one)
 
 -- ---- Par(2) blocks

@@ -65,7 +65,7 @@ fn sub_good(s: &[u8], e: usize, names: u32) -> usize
 
 // The place behind what stands in a Par(2) block behind its NPar(2), which ends before a place; c is the SPar(1).
 fn group_good(s: &[u8], e: usize, c: u32) -> usize
-    requires { ⌜ (length (now s) ≤ 64) × (c % ofS ≡ 0) × (0 < c % ofF) × (c ≤ fieldBase 3) ⌝ }
+    requires { ⌜ (c % ofS ≡ 0) × (0 < c % ofF) × (c ≤ fieldBase 3) ⌝ }
     ensures { λ r. ⌜ r ≡ pick (goodGroup c (now (s .entry)) e) (groupBehind (now (s .entry)) e) 0 ⌝ }
 {
     if bit8(s, e) {
@@ -88,7 +88,7 @@ fn group_good(s: &[u8], e: usize, c: u32) -> usize
 
 // The place behind the Par(2) block at a place; c is the SPar(1).
 fn par_good(s: &[u8], e: usize, c: u32) -> usize
-    requires { ⌜ (length (now s) ≤ 64) × (c % ofS ≡ 0) × (0 < c % ofF) × (c ≤ fieldBase 3) ⌝ }
+    requires { ⌜ (c % ofS ≡ 0) × (0 < c % ofF) × (c ≤ fieldBase 3) ⌝ }
     ensures { λ r. ⌜ r ≡ pick (goodPar c (now (s .entry)) e) (groupBehind (now (s .entry)) (behind 64 (now (s .entry)) e)) 0 ⌝ }
 {
     let npars = npar_places(Keep::Standard, c);
@@ -101,7 +101,7 @@ fn par_good(s: &[u8], e: usize, c: u32) -> usize
 
 // The place behind the Par(2) blocks of the SPar(1) positions that are set in one octet, above a number.
 fn pars_good_of(s: &[u8], octet: u8, above: u32, start: usize) -> usize
-    requires { ⌜ (octet < 128) × (length (now s) ≤ 64) × (above ≤ 448) × (0 < start) ⌝ }
+    requires { ⌜ (octet < 128) × (above ≤ 448) × (0 < start) ⌝ }
     ensures { λ r. ⌜ r ≡ parsJudged (fieldBase 2) (setBits 7 above octet) (now (s .entry)) start ⌝ }
 {
     let mut bits = octet;

@@ -1,4 +1,4 @@
--- One block: what is written of rising positions is read back as these, well-formed and tight, wherever it stands; and a tight block
+-- One block: what is written of ascending positions is read back as these, well-formed and tight, wherever it stands; and a tight block
 -- is what is written of its numbers. The delimiter in a last octet is k * 2 ^ w with k odd: 1, or 3 where bit 8 is set too.
 -- Assumes nothing.
 use Prim.Native.Nat.{ℕ, zero, suc, _+_, _*_, _-_, _/_, _%_, _^_, _≤_, _<_}
@@ -17,11 +17,12 @@ use lib.Pow.{pow-pos, pow-mono}
 use Rattle.octets.specs.Places.{pick}
 use Rattle.tree.specs.Block.{keep, setBits, blockNumbers, blockEnd, numbers, behind, ended}
 use Rattle.tree.specs.Form.{blockForm, formAt}
+use Rattle.tree.specs.Order.{Ascending}
 use Rattle.tree.specs.declared.Form.the-variants.{Fine}
 use Rattle.meaning.specs.Written.{passed, skipped, carried, blockFrom, blockOctets, marked}
 use Rattle.meaning.specs.Minimal.{fullAtEnd, tight, tightAt}
+use Rattle.tree.proofs.Ascending.{numbers-ascending}
 use Rattle.tree.proofs.Numbering.{shift, keep-append, setBits-over, setBits-more, setBits-zero, numbers-shift}
-use Rattle.meaning.proofs.Trees.{Rising}
 
 -- ---- a block as octets
 
@@ -95,30 +96,6 @@ far w M p a q qs pos h =
     let on : p + suc (d / w) * w ≡ p + w + d / w * w = omega arith in
     rw (count, bit, on, skipped-none (d / w), carried-none (d / w))
 
--- an octet before rising positions: those of its bits rise too
-rising-keep : (b p : ℕ) (s : List ℕ) → p < 511 → Rising (p + 1) s → Rising p (keep b (p + 1) s)
-unfolding Rising
-rising-keep zero p [] h r = tt
-rising-keep zero p (q ∷ s) h r = (omega (arith, r .0), r .1, r .2)
-rising-keep (suc b) p s h r = (omega arith, omega arith, r)
-
-rising-bits : (w p d : ℕ) (s : List ℕ) → p + w ≤ 511 → Rising (p + w) s → Rising p (setBits w p d ++ s)
-unfolding setBits
-rising-bits zero p d s h r = let z : p + 0 ≡ p = omega arith in rw z at r
-rising-bits (suc w) p d s h r =
-    let z : p + suc w ≡ p + 1 + w = omega arith in
-    rw (keep-append (d % 2)) (rising-keep (d % 2) p _ (omega arith) (rising-bits w (p + 1) (d / 2) s (omega arith) (rw z at r)))
-
--- the numbers of a block rise
-pub rising-numbers : (w m p : ℕ) (l : List ℕ) → p + w * length l ≤ 511 → Rising p (blockNumbers w m p l)
-unfolding blockNumbers
-rising-numbers w m p [] h = unfold Rising in tt
-rising-numbers w m p (o ∷ l) h = rising-bits w p o _ (omega arith) (go (ltb o m) (rising-numbers w m (p + w) l (omega arith)))
-  where
-    go : (b : Bool) → Rising (p + w) (blockNumbers w m (p + w) l) → Rising (p + w) (pick b (blockNumbers w m (p + w) l) [])
-    go true r = r
-    go false r = unfold Rising in tt
-
 -- something is set where a bit is, or something behind it
 some-keep : (b x : ℕ) (s : List ℕ) → (b ≡ 0 → 0 < length s) → 0 < length (keep b x s)
 some-keep zero x s f = f refl
@@ -158,8 +135,8 @@ fill-octet w M p a qs h =
     rw (start, all) at (fill w M p qs w 0 0 a (omega arith) h)
 
 -- positions behind an octet end it, if there are any
-far-all : (w M p a : ℕ) (qs : List ℕ) → 0 < w → 0 < length qs → Rising (p + w) qs → blockFrom w M p a qs ≡ a ∷ blockFrom w M (p + w) 0 qs
-unfolding Rising
+far-all : (w M p a : ℕ) (qs : List ℕ) → 0 < w → 0 < length qs → Ascending (p + w) qs → blockFrom w M p a qs ≡ a ∷ blockFrom w M (p + w) 0 qs
+unfolding Ascending
 far-all w M p a [] wide h r = absurd (omega arith)
 far-all w M p a (q ∷ qs) wide h r = far w M p a q qs wide (r .0)
 
@@ -265,11 +242,11 @@ module _ (w k : ℕ) (wide : 0 < w) (some : 0 < k) where
           rw (far w (k * 2 ^ w) p a q qs wide (omega arith)) (made-far p a q qs _ low (r (omega arith)))
 
   -- what is written from the middle of a block on: a holds positions up to lo
-  made : (qs : List ℕ) (p a lo : ℕ) → a < 2 ^ (lo - p) → p ≤ lo → lo ≤ p + w → Rising lo qs → Made w k p a qs (blockFrom w (k * 2 ^ w) p a qs)
-  unfolding Rising
+  made : (qs : List ℕ) (p a lo : ℕ) → a < 2 ^ (lo - p) → p ≤ lo → lo ≤ p + w → Ascending lo qs → Made w k p a qs (blockFrom w (k * 2 ^ w) p a qs)
+  unfolding Ascending
   made [] p a lo h up on r = unfold blockFrom in made-last p a (omega (arith, pow-mono {i = lo - p} {j = w} (omega arith)))
   made (q ∷ qs) p a lo h up on r =
-      made-next q qs (λ p a h up on. made qs p a q h up on (r .2)) q p a lo (omega arith) h up on (r .0)
+      made-next q qs (λ p a h up on. made qs p a q h up on (r .1)) q p a lo (omega arith) h up on (r .0)
 
   -- a block that ends with something set has something set
   some-numbers : (p : ℕ) (B : List ℕ) → Ends (2 ^ w) k B → fullAtEnd (2 ^ w) B ≡ true → 0 < length (blockNumbers w (2 ^ w) p B)
@@ -282,29 +259,28 @@ module _ (w k : ℕ) (wide : 0 < w) (some : 0 < k) where
       rw (numbers-more p a C h, length-append (setBits w p a)) (omega arith)
 
   -- a tight block is what is written of its numbers
-  back : (p : ℕ) (B : List ℕ) → p + w * length B ≤ 511 → Ends (2 ^ w) k B → tight (2 ^ w) B ≡ true → blockFrom w (k * 2 ^ w) p 0 (blockNumbers w (2 ^ w) p B) ≡ B
+  back : (p : ℕ) (B : List ℕ) → Ends (2 ^ w) k B → tight (2 ^ w) B ≡ true → blockFrom w (k * 2 ^ w) p 0 (blockNumbers w (2 ^ w) p B) ≡ B
   unfolding tight
-  back p B s (last a h) t = rw (numbers-last p a, fill-octet w (k * 2 ^ w) p a [] h) (unfold blockFrom in refl)
-  back p B s (more a C h e) t =
+  back p B (last a h) t = rw (numbers-last p a, fill-octet w (k * 2 ^ w) p a [] h) (unfold blockFrom in refl)
+  back p B (more a C h e) t =
       let qs = blockNumbers w (2 ^ w) (p + w) C in
       let f : fullAtEnd (2 ^ w) C ≡ true = rw (lt-ltb a (2 ^ w) h) at t in
-      let rise = rising-numbers w (2 ^ w) (p + w) C (omega arith) in
-      rw (numbers-more p a C h, fill-octet w (k * 2 ^ w) p a qs h, far-all w (k * 2 ^ w) p a qs wide (some-numbers (p + w) C e f) rise)
-      (ap (λ (l : List ℕ). a ∷ l) (back (p + w) C (omega arith) e (full-tight (2 ^ w) C f)))
+      rw (numbers-more p a C h, fill-octet w (k * 2 ^ w) p a qs h, far-all w (k * 2 ^ w) p a qs wide (some-numbers (p + w) C e f) (numbers-ascending w (2 ^ w) (p + w) C 0))
+      (ap (λ (l : List ℕ). a ∷ l) (back (p + w) C e (full-tight (2 ^ w) C f)))
 
   -- no block is shorter than what is written of its numbers
-  pub shorter : (M p : ℕ) (B : List ℕ) → p + w * length B ≤ 511 → Ends (2 ^ w) k B → length (blockFrom w M p 0 (blockNumbers w (2 ^ w) p B)) ≤ length B
-  shorter M p B s (last a h) = rw (numbers-last p a, fill-octet w M p a [] h) (unfold blockFrom in omega arith)
-  shorter M p B s (more a C h e) =
+  pub shorter : (M p : ℕ) (B : List ℕ) → Ends (2 ^ w) k B → length (blockFrom w M p 0 (blockNumbers w (2 ^ w) p B)) ≤ length B
+  shorter M p B (last a h) = rw (numbers-last p a, fill-octet w M p a [] h) (unfold blockFrom in omega arith)
+  shorter M p B (more a C h e) =
       let qs = blockNumbers w (2 ^ w) (p + w) C in
-      rw (numbers-more p a C h, fill-octet w M p a qs h) (go qs (rising-numbers w (2 ^ w) (p + w) C (omega arith)) (shorter M (p + w) C (omega arith) e))
+      rw (numbers-more p a C h, fill-octet w M p a qs h) (go qs (numbers-ascending w (2 ^ w) (p + w) C 0) (shorter M (p + w) C e))
     where
-      go : (qs : List ℕ) → Rising (p + w) qs → length (blockFrom w M (p + w) 0 qs) ≤ length C → length (blockFrom w M p a qs) ≤ suc (length C)
+      go : (qs : List ℕ) → Ascending (p + w) qs → length (blockFrom w M (p + w) 0 qs) ≤ length C → length (blockFrom w M p a qs) ≤ suc (length C)
       go [] r n = unfold blockFrom in omega arith
       go (q ∷ qs) r n = rw (far-all w M p a (q ∷ qs) wide (omega arith) r) (omega arith)
 
-  -- of rising positions a tight block is written
-  pub block-made : (qs : List ℕ) → Rising 0 qs → Tight w k qs (blockOctets w (k * 2 ^ w) qs)
+  -- of ascending positions a tight block is written
+  pub block-made : (qs : List ℕ) → Ascending 0 qs → Tight w k qs (block w (k * 2 ^ w) qs)
   block-made qs r =
       let m = made qs 0 0 0 (omega arith) (omega arith) (omega arith) r in
       record { ends = m .ends; reads = m .reads ∙ rw (setBits-zero w 0); full = go qs (m .full) }
@@ -314,8 +290,8 @@ module _ (w k : ℕ) (wide : 0 < w) (some : 0 < k) where
       go (q ∷ qs) f = full-tight (2 ^ w) _ (f (omega arith))
 
   -- a tight block of given positions is the one that is written
-  pub block-back : (qs B : List ℕ) → w * length B ≤ 511 → Tight w k qs B → blockOctets w (k * 2 ^ w) qs ≡ B
-  block-back qs B s t = rw (← (t .reads)) (back 0 B (omega arith) (t .ends) (t .full))
+  pub block-back : (qs B : List ℕ) → Tight w k qs B → block w (k * 2 ^ w) qs ≡ B
+  block-back qs B t = rw (← (t .reads)) (back 0 B (t .ends) (t .full))
 
 -- ---- bit 8
 
@@ -377,7 +353,7 @@ pub block-some : (w M : ℕ) (qs : List ℕ) → 0 < length (blockOctets w M qs)
 block-some w M qs = let o = opened w 0 0 qs in rw (o .whole M, length-append (o .before)) (omega arith)
 
 -- a marked block is the block with bit 8 in its delimiter
-pub block-marked : (qs : List ℕ) → Rising 0 qs → marked (blockOctets 6 64 qs) ≡ blockOctets 6 192 qs
+pub block-marked : (qs : List ℕ) → Ascending 0 qs → marked (block 6 64 qs) ≡ block 6 192 qs
 unfolding marked
 block-marked qs r =
     let o = opened 6 0 0 qs in
@@ -393,7 +369,7 @@ none [] = true
 none (x ∷ l) = false
 
 -- a block and what follows, marked: bit 8 stands in the block if nothing follows
-pub marked-block : (qs Y : List ℕ) → Rising 0 qs → marked (blockOctets 6 64 qs ++ Y) ≡ blockOctets 6 (closing (none Y) * 64) qs ++ marked Y
+pub marked-block : (qs Y : List ℕ) → Ascending 0 qs → marked (block 6 64 qs ++ Y) ≡ block 6 (closing (none Y) * 64) qs ++ marked Y
 unfolding marked
 marked-block qs [] r = rw (append-nil (blockOctets 6 64 qs), append-nil (blockOctets 6 192 qs)) (block-marked qs r)
 marked-block qs (y ∷ Y) r = marked-append (blockOctets 6 64 qs) (y ∷ Y) (omega arith)
@@ -434,9 +410,9 @@ pub record Stands (w m : ℕ) (qs l : List ℕ) (e : ℕ) (B R : List ℕ) : Typ
   pub fine : formAt m l e ≡ Fine
   pub minimal : tightAt m l e ≡ true
 
--- so a block stands there that was written of rising positions
-block-stands : (w k : ℕ) (qs l : List ℕ) (e : ℕ) (R : List ℕ) → 0 < w → 0 < k → k % 2 ≡ 1 → Rising 0 qs → drop e l ≡ blockOctets w (k * 2 ^ w) qs ++ R
-    → Stands w (2 ^ w) qs l e (blockOctets w (k * 2 ^ w) qs) R × At (2 ^ w) k l e (blockOctets w (k * 2 ^ w) qs) R
+-- so a block stands there that was written of ascending positions
+block-stands : (w k : ℕ) (qs l : List ℕ) (e : ℕ) (R : List ℕ) → 0 < w → 0 < k → k % 2 ≡ 1 → Ascending 0 qs → drop e l ≡ block w (k * 2 ^ w) qs ++ R
+    → Stands w (2 ^ w) qs l e (block w (k * 2 ^ w) qs) R × At (2 ^ w) k l e (block w (k * 2 ^ w) qs) R
 block-stands w k qs l e R wide some o r h =
     let B = blockOctets w (k * 2 ^ w) qs in
     let t = block-made w k wide some qs r in
@@ -454,12 +430,12 @@ block-stands w k qs l e R wide some o r h =
     )
 
 -- that of level 1
-pub top-stands : (qs l : List ℕ) (e : ℕ) (R : List ℕ) → Rising 0 qs → drop e l ≡ blockOctets 7 128 qs ++ R → Stands 7 128 qs l e (blockOctets 7 128 qs) R
+pub top-stands : (qs l : List ℕ) (e : ℕ) (R : List ℕ) → Ascending 0 qs → drop e l ≡ block 7 128 qs ++ R → Stands 7 128 qs l e (block 7 128 qs) R
 top-stands qs l e R r h = block-stands 7 1 qs l e R (omega arith) (omega arith) refl r h .0
 
 -- that of a lower level: bit 8 stands in the last octet exactly if the delimiter has it
-pub low-stands : (t : Bool) (qs l : List ℕ) (e : ℕ) (R : List ℕ) → Rising 0 qs → drop e l ≡ blockOctets 6 (closing t * 64) qs ++ R
-    → Stands 6 64 qs l e (blockOctets 6 (closing t * 64) qs) R × (ended l (behind 64 l e) ≡ t)
+pub low-stands : (t : Bool) (qs l : List ℕ) (e : ℕ) (R : List ℕ) → Ascending 0 qs → drop e l ≡ block 6 (closing t * 64) qs ++ R
+    → Stands 6 64 qs l e (block 6 (closing t * 64) qs) R × (ended l (behind 64 l e) ≡ t)
 low-stands t qs l e R r h =
     let k = closing-odd t in
     let s = block-stands 6 (closing t) qs l e R (omega arith) (k .0) (k .1) r h in

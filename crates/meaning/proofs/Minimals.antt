@@ -5,11 +5,11 @@ use mathlib.Core.Bool.{Bool, true, false, not}
 use mathlib.Core.List.{List, [], _∷_, _++_, append-assoc}
 use mathlib.Core.Logic.{⊎-elim}
 use mathlib.Core.Path.{_≡_, refl, sym, ap, _∙_, subst}
-use native.Mathlib.Nat.{mod-lt, mod-add-div', mul-le-mul, eq-zero-or-pos}
+use native.Mathlib.Nat.{mod-lt, mod-add-div', eq-zero-or-pos}
 use native.Mathlib.Omega.{arith}
 use borrow.Author.Tests.{ltb-true, eqb-true, leb-true, leb-false}
 use lib.Dec.{ltb, leb, eqb, eqb·suc-zero}
-use lib.ListN.{length, getD, take, drop, length-append, length-drop, List·getD-eq-default, take-append-drop}
+use lib.ListN.{length, getD, take, drop, length-append, List·getD-eq-default, take-append-drop}
 use lib.Pow.{pow-pos}
 use lib.Seq.{take-at}
 use Rattle.octets.specs.Bits.{AreOctets, odd}
@@ -17,17 +17,16 @@ use Rattle.octets.specs.Places.{pick, both}
 use Rattle.octets.proofs.Laws.{both-true}
 use Rattle.tree.specs.Block.{numbers, behind, announced, ended}
 use Rattle.tree.specs.Codes.{subsBehind, groupBehind, parsBehind, restBehind, fieldBehind}
+use Rattle.tree.proofs.Ascending.{numbers-ascending}
 use Rattle.tree.proofs.Forms.{and-parts}
 use Rattle.tree.specs.Form.{andThen, lastForm, blockForm, formAt, subsForm, groupForm, parsForm, restForm, fieldForm}
-use Rattle.tree.specs.declared.Form.{Form}
-use Rattle.tree.specs.declared.Form.the-variants.{Fine, Early, Wrong, Left, BadLength}
-use Rattle.meaning.specs.Written.{blockOctets, marked}
+use Rattle.tree.specs.Wide.{fieldFits}
+use Rattle.tree.specs.declared.Form.the-variants.{Fine, Wrong}
+use Rattle.meaning.specs.Written.{block, marked}
 use Rattle.meaning.specs.Minimal.{tightAt, subsMinimal, groupMinimal, parsMinimal, fieldMinimal}
 use Rattle.meaning.proofs.Trees.{Sub, subPlaces, subsOctets, lowerOctets, parOctets, parsOctets, treeOctets}
 use Rattle.meaning.proofs.Blocks.{Ends, last, more, ends-at, shorter, block-back, closing, none}
-use Rattle.meaning.proofs.Reading.{rising-at, places-subs, places-pars, marked-subs, marked-lower, subsAt, groupAt, parsAt, treeAt, tree-read, tree-good}
-
--- ---- tests
+use Rattle.meaning.proofs.Reading.{places-subs, places-pars, marked-subs, marked-lower, subsAt, groupAt, parsAt, treeAt, tree-read, tree-fits}
 
 -- ---- a well-formed block
 
@@ -68,26 +67,24 @@ record Found (w m : ℕ) (l : List ℕ) (e : ℕ) : Type 0 where
   same : tightAt m l e ≡ true → drop e l ≡ blockOctets w (k * m) (numbers w m 0 l e) ++ drop (behind m l e) l
 
 -- a block that stands there, and so any well-formed one
-found-cut : (w k : ℕ) (l : List ℕ) (e : ℕ) (B R : List ℕ) → 0 < w → w ≤ 7 → length l ≤ 64 → k % 2 ≡ 1 → Ends (2 ^ w) k B → drop e l ≡ B ++ R → Found w (2 ^ w) l e
-found-cut w k l e B R wide most short o b h =
+found-cut : (w k : ℕ) (l : List ℕ) (e : ℕ) (B R : List ℕ) → 0 < w → k % 2 ≡ 1 → Ends (2 ^ w) k B → drop e l ≡ B ++ R → Found w (2 ^ w) l e
+found-cut w k l e B R wide o b h =
     let m = 2 ^ w in
     let some : 0 < k = omega arith in
-    let few : length B ≤ 64 = omega (arith, length-drop e l, length-append B R, ap length h) in
-    let small : w * length B ≤ 511 = omega (arith, mul-le-mul most few) in
     let a = ends-at m k l e B R some b h in
     record {
       k = k;
       odd-k = o;
       low = a .low;
       high = a .high;
-      less = λ M. rw (a .says w 0) (omega (arith, shorter w k wide some M 0 B (omega arith) b, a .next));
-      same = λ t. rw (a .says w 0, block-back w k wide some _ B small (record { ends = b; reads = refl; full = sym (a .tells) ∙ t }), a .rest) h;
+      less = λ M. rw (a .says w 0) (omega (arith, shorter w k wide some M 0 B b, a .next));
+      same = λ t. rw (a .says w 0, block-back w k wide some _ B (record { ends = b; reads = refl; full = sym (a .tells) ∙ t }), a .rest) h;
     }
 
-found : (w : ℕ) (l : List ℕ) (e : ℕ) → 0 < w → w ≤ 7 → length l ≤ 64 → formAt (2 ^ w) l e ≡ Fine → Found w (2 ^ w) l e
-found w l e wide most short f =
+found : (w : ℕ) (l : List ℕ) (e : ℕ) → 0 < w → formAt (2 ^ w) l e ≡ Fine → Found w (2 ^ w) l e
+found w l e wide f =
     let c = cut (2 ^ w) e (drop e l) (pow-pos w) f in
-    found-cut w (c .k) l e (c .front) (c .rest) wide most short (c .odd-k) (c .ends) (c .whole)
+    found-cut w (c .k) l e (c .front) (c .rest) wide (c .odd-k) (c .ends) (c .whole)
 
 -- any octet of a message is one
 octet-at : (l : List ℕ) (i : ℕ) → AreOctets l → getD l i 0 < 256
@@ -141,12 +138,12 @@ unfolding subsAt
 none-at [] l e = refl
 none-at (t ∷ ts) l e = refl
 
-module _ (l : List ℕ) (short : length l ≤ 64) (octets : AreOctets l) where
+module _ (l : List ℕ) (octets : AreOctets l) where
   -- a block of level 1, and what is kept behind it
   top-kept : (e : ℕ) (u : Bool) (C : List ℕ) (y : ℕ) → formAt 128 l e ≡ Fine → Kept u l (behind 128 l e) C y
       → Kept (both (tightAt 128 l e) u) l e (blockOctets 7 128 (numbers 7 128 0 l e) ++ C) y
   top-kept e u C y f r =
-      let a = found 7 l e (omega arith) (omega arith) short f in
+      let a = found 7 l e (omega arith) f in
       let only : a .k ≡ 1 = omega (arith, a .odd-k, a .low, octet-at l (behind 128 l e - 1) octets) in
       kept-on (tightAt 128 l e) u l e (behind 128 l e) y (blockOctets 7 128 (numbers 7 128 0 l e)) C (a .less 128) (λ t w. rw only at (a .same t)) r
 
@@ -154,7 +151,7 @@ module _ (l : List ℕ) (short : length l ≤ 64) (octets : AreOctets l) where
   low-kept : (e : ℕ) (b u : Bool) (C : List ℕ) (y : ℕ) → formAt 64 l e ≡ Fine → (u ≡ true → ended l (behind 64 l e) ≡ b) → Kept u l (behind 64 l e) C y
       → Kept (both (tightAt 64 l e) u) l e (blockOctets 6 (closing b * 64) (numbers 6 64 0 l e) ++ C) y
   low-kept e b u C y f h r =
-      let a = found 6 l e (omega arith) (omega arith) short f in
+      let a = found 6 l e (omega arith) f in
       let only : a .k ≡ closing (ended l (behind 64 l e)) = closing-only (a .k) _ (a .odd-k) (a .low) (a .high) (octet-at l _ octets) in
       kept-on (tightAt 64 l e) u l e (behind 64 l e) y (blockOctets 6 (closing b * 64) (numbers 6 64 0 l e)) C (a .less (closing b * 64)) (λ t w. rw (only, h w) at (a .same t)) r
 
@@ -166,7 +163,7 @@ module _ (l : List ℕ) (short : length l ≤ 64) (octets : AreOctets l) where
       let x = behind 64 l e in
       let gs = subsAt ts l x in
       let g = and-parts (formAt 64 l e) (subsForm (length ts) l x) (and-parts (lastForm true (ended l e) e) _ f .1) in
-      rw (marked-subs (numbers 6 64 0 l e) gs (rising-at l short 6 64 e (omega arith)))
+      rw (marked-subs (numbers 6 64 0 l e) gs (numbers-ascending 6 64 0 l e))
       (low-kept e (none gs) _ _ _ (g .0) (λ u. subs-ended ts l x (g .1) ∙ sym (none-at ts l x)) (subs-kept ts x (g .1)))
 
   -- SPar(2) with the positions ts, and what it announces
@@ -175,11 +172,11 @@ module _ (l : List ℕ) (short : length l ≤ 64) (octets : AreOctets l) where
       (marked (lowerOctets (subsAt ts l (behind 64 l e)))) (subsBehind (length ts) l (behind 64 l e))
       × (not (eqb (length ts) 0) ≡ true → false ≡ none (subsAt ts l (behind 64 l e)))
   unfolding subsAt lowerOctets
-  lower-kept [] e q f g = (unfold marked subsBehind in record { less = omega (arith, found 6 l e (omega arith) (omega arith) short f .less 64); same = λ t. cc }, λ t. cc)
+  lower-kept [] e q f g = (unfold marked subsBehind in record { less = omega (arith, found 6 l e (omega arith) f .less 64); same = λ t. cc }, λ t. cc)
   lower-kept (t ∷ ts) e q f g =
       let x = behind 64 l e in
       let ns : subPlaces (subsAt (t ∷ ts) l x) ≡ numbers 6 64 0 l e = places-subs (t ∷ ts) l x ∙ sym q in (
-        rw (eqb·suc-zero (length ts), ns, marked-subs (numbers 6 64 0 l e) (subsAt (t ∷ ts) l x) (rising-at l short 6 64 e (omega arith)))
+        rw (eqb·suc-zero (length ts), ns, marked-subs (numbers 6 64 0 l e) (subsAt (t ∷ ts) l x) (numbers-ascending 6 64 0 l e))
             (low-kept e false _ _ _ f (λ u. subs-ended (t ∷ ts) l x g) (subs-kept (t ∷ ts) x g)),
         λ u. refl,
       )
@@ -224,7 +221,7 @@ module _ (l : List ℕ) (short : length l ≤ 64) (octets : AreOctets l) where
       let p = and-parts (formAt 64 l e) _ f in
       let q = and-parts (groupForm l x) (parsForm (length ss) l y) (p .1) in
       let g = group-kept x (q .0) in
-      rw (marked-lower ns gs (rising-at l short 6 64 e (omega arith)), append-assoc (blockOctets 6 (closing (none gs) * 64) ns) G P)
+      rw (marked-lower ns gs (numbers-ascending 6 64 0 l e), append-assoc (block 6 (closing (none gs) * 64) ns) G P)
       (low-kept e (none gs) _ (G ++ P) _ (p .0) (λ u. g .1 (both-true (groupMinimal l x) _ u .0))
       (kept-on (groupMinimal l x) _ l x y _ G P (g .0 .less) (λ t u. g .0 .same t) (pars-kept ss y (q .1))))
 
@@ -243,20 +240,20 @@ module _ (l : List ℕ) (short : length l ≤ 64) (octets : AreOctets l) where
   pub minimal-stands : (e : ℕ) → fieldForm l e ≡ Fine → fieldMinimal l e ≡ true → drop e l ≡ treeOctets (treeAt l e) ++ drop (fieldBehind l e) l
   minimal-stands e f m = tree-kept e f .same m
 
-  -- and so it is what is written
-  pub minimal-same : (e : ℕ) → fieldForm l e ≡ Fine → fieldMinimal l e ≡ true → take (fieldBehind l e - e) (drop e l) ≡ treeOctets (treeAt l e)
-  minimal-same e f m =
-      let y = fieldBehind l e in
-      let h = minimal-stands e f m in
-      let r = tree-read 0 (treeAt l e) l e (drop y l) (tree-good l short e) h in
-      rw h (take-at (treeOctets (treeAt l e)) (drop y l) (y - e) (omega (arith, r .next)))
-
   -- what is written of a field's tree is never longer than the field
   pub never-longer : (e : ℕ) → fieldForm l e ≡ Fine → length (treeOctets (treeAt l e)) ≤ fieldBehind l e - e
   never-longer e f = omega (arith, tree-kept e f .less)
 
--- a field that is what is written of its tree is minimal
-pub same-minimal : (l : List ℕ) (e : ℕ) → length l ≤ 64 → take (fieldBehind l e - e) (drop e l) ≡ treeOctets (treeAt l e) → fieldMinimal l e ≡ true
-same-minimal l e short h =
-    let n = fieldBehind l e - e in
-    tree-read 0 (treeAt l e) l e (drop n (drop e l)) (tree-good l short e) (rw (← h) (sym (take-append-drop n (drop e l)))) .tight
+-- where it has no position above 511 it is what is written exactly if it is minimal
+module _ (l : List ℕ) (e : ℕ) (h : fieldFits l e ≡ true) where
+  pub minimal-same : AreOctets l → fieldForm l e ≡ Fine → fieldMinimal l e ≡ true → take (fieldBehind l e - e) (drop e l) ≡ treeOctets (treeAt l e)
+  minimal-same octets f m =
+      let y = fieldBehind l e in
+      let s = minimal-stands l octets e f m in
+      let r = tree-read 0 (treeAt l e) l e (drop y l) (tree-fits l e h) s in
+      rw s (take-at (treeOctets (treeAt l e)) (drop y l) (y - e) (omega (arith, r .next)))
+
+  pub same-minimal : take (fieldBehind l e - e) (drop e l) ≡ treeOctets (treeAt l e) → fieldMinimal l e ≡ true
+  same-minimal s =
+      let n = fieldBehind l e - e in
+      tree-read 0 (treeAt l e) l e (drop n (drop e l)) (tree-fits l e h) (rw (← s) (sym (take-append-drop n (drop e l)))) .tight

@@ -5,23 +5,26 @@ use Prim.Native.Nat.{ℕ, _+_, _*_, _≤_, _<_}
 use mathlib.Core.Bool.{Bool, true, false}
 use mathlib.Core.List.{List, [], _∷_, _++_, append-assoc}
 use mathlib.Core.Path.{_≡_, refl, ap, _∙_}
-use native.Mathlib.Nat.{mul-le-mul}
 use native.Mathlib.Omega.{arith}
 use borrow.Author.Tests.{ne-eqb}
 use lib.Dec.{eqb}
-use lib.ListN.{length, drop, length-append, length-drop}
+use lib.ListN.{length, drop, length-append}
 use lib.Seq.{drop-drop, drop-append-seam}
 use Rattle.octets.specs.Places.{pick}
 use Rattle.tree.specs.Block.{numbers, behind, ended}
 use Rattle.tree.specs.Codes.{subCodes, subsBehind, groupCodes, groupBehind, parCodes, parsBehind, restCodes, restBehind, fieldCodes, fieldBehind, ofS}
 use Rattle.tree.specs.Form.{subsForm, groupForm, parsForm, restForm, fieldForm}
+use Rattle.tree.specs.Order.{Ascending}
+use Rattle.tree.specs.Wide.{lowFits, fieldFits}
 use Rattle.tree.specs.declared.Form.{Form}
 use Rattle.tree.specs.declared.Form.the-variants.{Fine}
 use Rattle.meaning.specs.Written.{blockOctets, marked}
 use Rattle.meaning.specs.Minimal.{subsMinimal, groupMinimal, parsMinimal, fieldMinimal}
-use Rattle.meaning.proofs.Trees.{Sub, sub, Par, par, Tree, tree, subPlaces, parPlaces, subsCodes, parsCodes, treeCodes, subsOctets, lowerOctets, parOctets, parsOctets, treeOctets, Rising, GoodSubs, GoodPars, GoodTree}
+use Rattle.meaning.proofs.Trees.{Sub, sub, Par, par, Tree, tree, subPlaces, parPlaces, subsCodes, parsCodes, treeCodes, subsOctets, lowerOctets, parOctets, parsOctets, treeOctets, Rising, GoodSubs, GoodPars, GoodTree, rising-all, ascends}
+use Rattle.tree.proofs.Ascending.{numbers-between, low-between, top-between}
 use Rattle.tree.proofs.Numbering.{numbers-shift}
-use Rattle.meaning.proofs.Blocks.{rising-numbers, closing, none, block-some, marked-block, top-stands, low-stands}
+use Rattle.tree.proofs.Wide.{fits-parts, fits-short}
+use Rattle.meaning.proofs.Blocks.{closing, none, block-some, marked-block, top-stands, low-stands}
 
 -- ---- octets of a tree
 
@@ -52,10 +55,10 @@ none-lower [] = refl
 none-lower (g ∷ gs) = block-there (subPlaces (g ∷ gs)) (subsOctets (g ∷ gs))
 
 -- a block and what follows in its Par(2) block, marked: bit 8 stands in it if no nodes follow
-pub marked-subs : (ks : List ℕ) (gs : List Sub) → Rising 0 ks → marked (blockOctets 6 64 ks ++ subsOctets gs) ≡ blockOctets 6 (closing (none gs) * 64) ks ++ marked (subsOctets gs)
+pub marked-subs : (ks : List ℕ) (gs : List Sub) → Ascending 0 ks → marked (block 6 64 ks ++ subsOctets gs) ≡ block 6 (closing (none gs) * 64) ks ++ marked (subsOctets gs)
 marked-subs ks gs r = rw (marked-block ks (subsOctets gs) r, none-subs gs)
 
-pub marked-lower : (ns : List ℕ) (gs : List Sub) → Rising 0 ns → marked (blockOctets 6 64 ns ++ lowerOctets gs) ≡ blockOctets 6 (closing (none gs) * 64) ns ++ marked (lowerOctets gs)
+pub marked-lower : (ns : List ℕ) (gs : List Sub) → Ascending 0 ns → marked (block 6 64 ns ++ lowerOctets gs) ≡ block 6 (closing (none gs) * 64) ns ++ marked (lowerOctets gs)
 marked-lower ns gs r = rw (marked-block ns (lowerOctets gs) r, none-lower gs)
 
 -- the NPar(3) blocks
@@ -67,8 +70,9 @@ subs-read c [] l e R w h b = unfold marked in record { told = refl; next = omega
 subs-read c ((sub t ks) ∷ gs) l e R w h b =
     let B = blockOctets 6 (closing (none gs) * 64) ks in
     let S = marked (subsOctets gs) in
-    let whole : marked (blockOctets 6 64 ks ++ subsOctets gs) ≡ B ++ S = marked-subs ks gs (w .0) in
-    let s = low-stands (none gs) ks l e (S ++ R) (w .0) (h ∙ rw (whole, append-assoc B S R)) in
+    let up = ascends 0 ks (w .0) in
+    let whole : marked (block 6 64 ks ++ subsOctets gs) ≡ B ++ S = marked-subs ks gs up in
+    let s = low-stands (none gs) ks l e (S ++ R) up (h ∙ rw (whole, append-assoc B S R)) in
     let ih = subs-read c gs l (behind 64 l e) R (w .1) (s .0 .rest) (s .1) in
     record {
       told = rw (s .0 .numbered (c + t * 512), ih .told);
@@ -87,8 +91,9 @@ group-read c ((sub t ks) ∷ gs) l e R r w h b =
     let ts = t ∷ subPlaces gs in
     let B = blockOctets 6 64 ts in
     let S = marked (subsOctets some) in
-    let whole : marked (B ++ subsOctets some) ≡ B ++ S = marked-subs ts some r in
-    let s = low-stands false ts l e (S ++ R) r (h ∙ rw (whole, append-assoc B S R)) in
+    let up = ascends 0 ts r in
+    let whole : marked (B ++ subsOctets some) ≡ B ++ S = marked-subs ts some up in
+    let s = low-stands false ts l e (S ++ R) up (h ∙ rw (whole, append-assoc B S R)) in
     let ih = subs-read c some l (behind 64 l e) R w (s .0 .rest) (s .1) in
     let set : eqb (length ts) 0 ≡ false = ne-eqb (length ts) 0 (λ e. omega arith) in
     record {
@@ -109,8 +114,9 @@ pars-read b ((par s ns gs) ∷ ps) l e R w h =
     let B = blockOctets 6 (closing (none gs) * 64) ns in
     let G = marked (lowerOctets gs) in
     let P = parsOctets ps in
-    let whole : marked (blockOctets 6 64 ns ++ lowerOctets gs) ≡ B ++ G = marked-lower ns gs (w .0) in
-    let a = low-stands (none gs) ns l e (G ++ (P ++ R)) (w .0) (h ∙ rw (whole, append-assoc (B ++ G) P R, append-assoc B G (P ++ R))) in
+    let up = ascends 0 ns (w .0) in
+    let whole : marked (block 6 64 ns ++ lowerOctets gs) ≡ B ++ G = marked-lower ns gs up in
+    let a = low-stands (none gs) ns l e (G ++ (P ++ R)) up (h ∙ rw (whole, append-assoc (B ++ G) P R, append-assoc B G (P ++ R))) in
     let x = behind 64 l e in
     let g = group-read c gs l x (P ++ R) (w .1) (w .2) (a .0 .rest) (a .1) in
     let goes : drop (groupBehind l x) l ≡ P ++ R = rw (g .next, ← (drop-drop (length G) x l), a .0 .rest) (drop-append-seam G (P ++ R)) in
@@ -130,9 +136,9 @@ tree-read b (tree ns ps) l e R w h =
     let N = blockOctets 7 128 ns in
     let S = blockOctets 7 128 (parPlaces ps) in
     let P = parsOctets ps in
-    let a = top-stands ns l e (S ++ (P ++ R)) (w .0) (h ∙ rw (append-assoc N (S ++ P) R, append-assoc S P R)) in
+    let a = top-stands ns l e (S ++ (P ++ R)) (ascends 0 ns (w .0)) (h ∙ rw (append-assoc N (S ++ P) R, append-assoc S P R)) in
     let x = behind 128 l e in
-    let s = top-stands (parPlaces ps) l x (P ++ R) (w .1) (a .rest) in
+    let s = top-stands (parPlaces ps) l x (P ++ R) (ascends 0 (parPlaces ps) (w .1)) (a .rest) in
     let y = behind 128 l x in
     let t = pars-read b ps l y R (w .2) (s .rest) in
     record {
@@ -207,18 +213,19 @@ unfolding parsAt
 places-pars [] l e = refl
 places-pars (s ∷ ss) l e = ap (λ (a : List ℕ). s ∷ a) (places-pars ss l (groupBehind l (behind 64 l e)))
 
-module _ (l : List ℕ) (short : length l ≤ 64) where
-  -- in the octets of a message no position is above 448
-  pub rising-at : (w m e : ℕ) → w ≤ 7 → Rising 0 (numbers w m 0 l e)
-  rising-at w m e h =
-      let few : length (drop e l) ≤ 64 = omega (arith, length-drop e l) in
-      rising-numbers w m 0 (drop e l) (omega (arith, mul-le-mul h few))
+-- in the octets of a message no position is above 511
+pub rising-at : (l : List ℕ) → length l ≤ 64 → (w m e : ℕ) → w ≤ 7 → Rising 0 (numbers w m 0 l e)
+rising-at l short w m e h = rising-all 0 _ (numbers-between w m 0 l e h short)
 
-  -- so its nodes are good, level by level
+-- where none is, its nodes are good, level by level
+module _ (l : List ℕ) (low : lowFits 0 l ≡ true) where
+  rising-low : (e : ℕ) → Rising 0 (numbers 6 64 0 l e)
+  rising-low e = rising-all 0 _ (low-between 0 l e low)
+
   good-subs : (ts : List ℕ) (e : ℕ) → GoodSubs (subsAt ts l e)
   unfolding GoodSubs subsAt
   good-subs [] e = tt
-  good-subs (t ∷ ts) e = (rising-at 6 64 e (omega arith), good-subs ts (behind 64 l e))
+  good-subs (t ∷ ts) e = (rising-low e, good-subs ts (behind 64 l e))
 
   good-group : (e : ℕ) → Rising 0 (subPlaces (groupAt l e)) × GoodSubs (groupAt l e)
   unfolding groupAt
@@ -229,19 +236,23 @@ module _ (l : List ℕ) (short : length l ≤ 64) where
 
       go : (b : Bool) → Rising 0 (subPlaces (pick b [] (subsAt ts l (behind 64 l e)))) × GoodSubs (pick b [] (subsAt ts l (behind 64 l e)))
       go true = unfold Rising GoodSubs in (tt, tt)
-      go false = (rw (places-subs ts l (behind 64 l e)) (rising-at 6 64 e (omega arith)), good-subs ts (behind 64 l e))
+      go false = (rw (places-subs ts l (behind 64 l e)) (rising-low e), good-subs ts (behind 64 l e))
 
   good-pars : (ss : List ℕ) (e : ℕ) → GoodPars (parsAt ss l e)
   unfolding GoodPars parsAt
   good-pars [] e = tt
   good-pars (s ∷ ss) e =
       let g = good-group (behind 64 l e) in
-      (rising-at 6 64 e (omega arith), g .0, g .1, good-pars ss (groupBehind l (behind 64 l e)))
+      (rising-low e, g .0, g .1, good-pars ss (groupBehind l (behind 64 l e)))
 
-  -- the tree of a message's octets is as it should be
-  pub tree-good : (e : ℕ) → GoodTree (treeAt l e)
-  unfolding GoodTree treeAt
-  tree-good e =
-      let x = behind 128 l e in
-      let ss = numbers 7 128 0 l x in
-      (rising-at 7 128 e (omega arith), rw (places-pars ss l (behind 128 l x)) (rising-at 7 128 x (omega arith)), good-pars ss (behind 128 l x))
+-- the tree of a field without a position above 511 is as it should be, and so is that of a message's field
+pub tree-fits : (l : List ℕ) (e : ℕ) → fieldFits l e ≡ true → GoodTree (treeAt l e)
+unfolding GoodTree treeAt
+tree-fits l e h =
+    let x = behind 128 l e in
+    let ss = numbers 7 128 0 l x in
+    let f = fits-parts l e h in
+    (rising-all 0 _ (top-between 0 l e (f .0)), rw (places-pars ss l (behind 128 l x)) (rising-all 0 ss (top-between 0 l x (f .1))), good-pars l (f .2) ss (behind 128 l x))
+
+pub tree-good : (l : List ℕ) → length l ≤ 64 → (e : ℕ) → GoodTree (treeAt l e)
+tree-good l short e = tree-fits l e (fits-short l e short)

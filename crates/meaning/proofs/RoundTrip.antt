@@ -28,8 +28,8 @@ use Rattle.message.proofs.Room.{codes-fit}
 use Rattle.meaning.specs.Meaning.{allShaped, ascending, allParented}
 use Rattle.meaning.specs.Written.{blockOctets, marked, run, from, written}
 use Rattle.meaning.specs.Minimal.{fieldMinimal, messageMinimal}
-use Rattle.meaning.specs.Writing.{Writing, sent, refusedIf, isEmpty, endsThere, nsAgrees, messageOctets, checkedWriting, listWriting, writeMessage, Writable}
-use Rattle.meaning.proofs.Trees.{Sub, sub, Par, par, Tree, tree, subPlaces, parPlaces, subsOctets, lowerOctets, parOctets, parsOctets, treeOctets, Rising, GoodSubs, GoodPars, GoodTree}
+use Rattle.meaning.specs.Writing.{Writing, sent, declinedIf, isEmpty, endsThere, nsAgrees, messageOctets, checkedWriting, listWriting, writeMessage, Writable}
+use Rattle.meaning.proofs.Trees.{Sub, sub, Par, par, Tree, tree, subPlaces, parPlaces, subsOctets, lowerOctets, parOctets, parsOctets, treeOctets, Rising, GoodSubs, GoodPars, GoodTree, ascends}
 use Rattle.meaning.proofs.Blocks.{Ends, last, more, block-made}
 use Rattle.meaning.proofs.Growing.{Within, within-at, treeOf, written-tree}
 use Rattle.meaning.proofs.Meanings.{Meant, tree-means, grown, written-grown, meaning-cut, meaning-join}
@@ -251,8 +251,8 @@ eight-ends m k B h (last a e) = (omega arith, tt)
 eight-ends m k B h (more a C e r) = (omega arith, eight-ends m k C h r)
 
 -- a block that is written
-eight-block : (w : ℕ) (qs : List ℕ) → 0 < w → 2 ^ w + 1 * 2 ^ w ≤ 256 → Rising 0 qs → Eight (blockOctets w (1 * 2 ^ w) qs)
-eight-block w qs p h r = eight-ends (2 ^ w) 1 (blockOctets w (1 * 2 ^ w) qs) h (block-made w 1 p (omega arith) qs r .ends)
+eight-block : (w : ℕ) (qs : List ℕ) → 0 < w → 2 ^ w + 1 * 2 ^ w ≤ 256 → Rising 0 qs → Eight (block w (1 * 2 ^ w) qs)
+eight-block w qs p h r = eight-ends (2 ^ w) 1 (block w (1 * 2 ^ w) qs) h (block-made w 1 p (omega arith) qs (ascends 0 qs r) .ends)
 
 -- octets of which the last is marked by bit 8
 eight-marked : (l : List ℕ) → Eight l → Eight (marked l)
@@ -388,8 +388,8 @@ module _ (l : List ℕ) (octets : AreOctets l) (m : Readable l) where
       let j = meaning-join a r (meant-at 1 l 1 (omega arith) (omega arith) (m .few)) (meant-at 2 l (standardAt l) (omega arith) (omega arith) (m .few)) in
       let one = field-fits l 1 (p .0) in
       let two = field-fits l (standardAt l) (q .0) in
-      let first = never-longer l (m .few) octets 1 (p .0) in
-      let second = never-longer l (m .few) octets (standardAt l) (q .0) in
+      let first = never-longer l octets 1 (p .0) in
+      let second = never-longer l octets (standardAt l) (q .0) in
       let agrees : nsAgrees (a ++ r) N ≡ true = tail-agrees l (a ++ r) (tailAt l) (two .1) (announced-fields l (standardAt l)) ∙ ap isFine (q .1) in
       let less : length (getD l 0 0 ∷ (A ++ (R ++ N))) ≤ length l = simp length-append (omega (arith, length-drop (tailAt l) l)) in
       record {
@@ -408,8 +408,8 @@ module _ (l : List ℕ) (octets : AreOctets l) (m : Readable l) where
         less = less;
         same = λ k.
             let b = both-true (fieldMinimal l 1) (fieldMinimal l (standardAt l)) (rw t at k) in
-            let one = minimal-stands l (m .few) octets 1 (p .0) (b .0) in
-            let two = minimal-stands l (m .few) octets (standardAt l) (q .0) (b .1) in
+            let one = minimal-stands l octets 1 (p .0) (b .0) in
+            let two = minimal-stands l octets (standardAt l) (q .0) (b .1) in
             rw (← two, ← one) (sym (drop-cons l 0 0 (m .some)));
       }
 

@@ -2,7 +2,9 @@
 -- Assumes nothing.
 use Prim.Native.Nat.{ℕ, _+_, _*_, _<_, _≤_}
 use mathlib.Core.List.{List, [], _∷_, _++_}
+use native.Mathlib.Omega.{arith}
 use Rattle.tree.specs.Codes.{ofS}
+use Rattle.tree.specs.Order.{Ascending, AllBelow}
 use Rattle.tree.proofs.Numbering.{shift}
 use Rattle.meaning.specs.Written.{blockOctets, marked}
 
@@ -63,6 +65,17 @@ treeOctets (tree ns ps) = blockOctets 7 128 ns ++ (blockOctets 7 128 (parPlaces 
 unfoldable pub Rising : ℕ → List ℕ → Type 0
 Rising lo [] = Unit {0}
 Rising lo (q ∷ qs) = (lo < q) × (q ≤ 511) × Rising q qs
+
+-- those that ascend and are below 512 do, and those that do ascend
+pub rising-all : (lo : ℕ) (l : List ℕ) → Ascending lo l × AllBelow 512 l → Rising lo l
+unfolding Ascending AllBelow Rising
+rising-all lo [] b = tt
+rising-all lo (q ∷ l) b = (b .0 .0, omega (arith, b .1 .0), rising-all q l (b .0 .1, b .1 .1))
+
+pub ascends : (lo : ℕ) (l : List ℕ) → Rising lo l → Ascending lo l
+unfolding Ascending Rising
+ascends lo [] r = tt
+ascends lo (q ∷ l) r = (r .0, ascends q l (r .2))
 
 unfoldable pub GoodSubs : List Sub → Type 0
 GoodSubs [] = Unit {0}

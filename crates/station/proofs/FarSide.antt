@@ -17,6 +17,7 @@ use Rattle.tree.specs.Fields.{isIn, codesIn, mostOctets}
 use Rattle.tree.specs.declared.Field.the-variants.{Identification, Standard}
 use Rattle.tree.specs.declared.Form.the-variants.{Fine}
 use Rattle.tree.proofs.Forms.{form-in}
+use Rattle.tree.proofs.Wide.{wide-short}
 use Rattle.message.specs.Kinds.{hasFields, typeOf}
 use Rattle.message.specs.Reader.{listRoom, standardAt, messageCodes, readMessage, accepted}
 use Rattle.message.proofs.Accepted.{accepted-passed}
@@ -85,9 +86,9 @@ stores-kept {k} {m} {at} {n} {store₀} s r w =
 -- ---- the choice
 
 -- the far list may be looked at as it came: striking it does not change the choice
-pub choice-as-heard : (own m run : List ℕ) → goodWishes run ≡ true → choice own (farCodes m (standardAt m)) run ≡ choice own (heard (farList m)) run
+pub choice-as-heard : (own m run : List ℕ) → length m ≤ mostOctets → goodWishes run ≡ true → choice own (farCodes m (standardAt m)) run ≡ choice own (heard (farList m)) run
 unfolding farList
-choice-as-heard own m run g = sym (choice-struck own (codesIn Standard m (standardAt m)) run g)
+choice-as-heard own m run h g = rw (wide-short Standard m (standardAt m) h) (sym (choice-struck own (codesIn Standard m (standardAt m)) run g))
 
 -- ---- from what is said to what is done
 
@@ -131,13 +132,13 @@ module _ (set : Settings) (own run m : List ℕ) (time : ℕ) where
   pub takes-half : {after : After} → after ≡ ThenHalf → sends [] [] (storedList m) (Half time) ≡ takes after set own run m time
   takes-half a = rw a
 
-  module _ {after : After} {at : ℕ} {found : Choosing} {far : FarOffer} (p : at ≡ standardAt m) (g : goodWishes run ≡ true)
+  module _ {after : After} {at : ℕ} {found : Choosing} {far : FarOffer} (s : Standing m at) (g : goodWishes run ≡ true)
       (e : found ≡ choice (standardCodes own) (farCodes m at) run) (o : far ≡ farOffer m) where
     pub takes-ms : after ≡ ThenMs → proposes found set far run (storedList m) time ≡ takes after set own run m time
-    takes-ms a = rw (a, e, o, p, choice-as-heard (standardCodes own) m run g)
+    takes-ms a = rw (a, e, o, s .place, choice-as-heard (standardCodes own) m run (few m (s .fine) (s .fields)) g)
 
     pub takes-cl-ms : after ≡ ThenClMs → proposesBehind (sentList 2 set own) found set far run (storedList m) time ≡ takes after set own run m time
-    takes-cl-ms a = rw (a, e, o, p, choice-as-heard (standardCodes own) m run g)
+    takes-cl-ms a = rw (a, e, o, s .place, choice-as-heard (standardCodes own) m run (few m (s .fine) (s .fields)) g)
 
 -- ---- an MS that was judged
 

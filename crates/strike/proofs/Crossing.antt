@@ -171,4 +171,4 @@ module _ (k : Keep) (l : List ℕ) (short : length l ≤ 64) where
   -- a well-formed field never grows
   pub kept-fits : (f : Field) (at : ℕ) → AreOctets l → fieldForm l at ≡ Fine → length (fieldKept k (baseOf f) l at) ≤ fieldBehind l at - at
   kept-fits f at o fine =
-      rw (tree-crossed (baseOf f) at (base-whole f)) (omega (arith, tree-fewer (keeps k) (baseOf f) (treeAt l at) (tree-good l short at), never-longer l short o at fine))
+      rw (tree-crossed (baseOf f) at (base-whole f)) (omega (arith, tree-fewer (keeps k) (baseOf f) (treeAt l at) (tree-good l short at), never-longer l o at fine))

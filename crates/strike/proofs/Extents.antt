@@ -5,7 +5,7 @@ use Prim.Native.Nat.{ℕ, zero, suc, _+_, _*_, _-_, _/_, _%_, _^_, _≤_, _<_}
 use mathlib.Core.Bool.{Bool, true, false}
 use mathlib.Core.List.{List, [], _∷_, _++_}
 use mathlib.Core.Path.{_≡_, refl, sym, ap, _∙_}
-use native.Mathlib.Nat.{mul-le-mul-right, add-mul-mod-self-right, mod-eq-of-lt}
+use native.Mathlib.Nat.{add-mul-mod-self-right, mod-eq-of-lt}
 use native.Mathlib.Omega.{arith}
 use borrow.Author.Tests.{eqb-true, eq-eqb, ne-eqb, lt-ltb, le-ltb}
 use lib.Bits.{bitAnd}
@@ -110,12 +110,10 @@ module _ (w : ℕ) where
       go false r = rw (lt-ltb x (2 ^ w) h) (r refl)
 
   -- so it is what is written of the numbers
-  trim-written : (xs : List ℕ) → 0 < w → w * length (trim (2 ^ w) xs) ≤ 511 → Small (2 ^ w) xs → blockOctets w (2 ^ w) (blockNumbers w (2 ^ w) 0 xs) ≡ trim (2 ^ w) xs
-  trim-written xs wide few s =
+  trim-written : (xs : List ℕ) → 0 < w → Small (2 ^ w) xs → block w (2 ^ w) (blockNumbers w (2 ^ w) 0 xs) ≡ trim (2 ^ w) xs
+  trim-written xs wide s =
       let one : 1 * 2 ^ w ≡ 2 ^ w = omega arith in
-      let back : w * length (trim (1 * 2 ^ w) xs) ≤ 511 → blockOctets w (1 * 2 ^ w) (blockNumbers w (2 ^ w) 0 xs) ≡ trim (1 * 2 ^ w) xs =
-      λ n. block-back w 1 wide (omega arith) _ _ n (record { ends = trim-ends xs s; reads = trim-numbers 0 xs s; full = trim-tight xs s }) in
-      (rw one at back) few
+      rw one at (block-back w 1 wide (omega arith) _ _ (record { ends = trim-ends xs s; reads = trim-numbers 0 xs s; full = trim-tight xs s }))
 
   -- octets have nothing set exactly if all are 0
   empty-numbers : (p : ℕ) (xs : List ℕ) → Small (2 ^ w) xs → isEmpty (blockNumbers w (2 ^ w) p xs) ≡ allZero xs
@@ -274,12 +272,10 @@ octets-reach : (w : ℕ) (places : Places) (m : ℕ) (l : List ℕ) → length (
 octets-reach w places m l = omega (arith, trim-reach m (keptOctets w places m 0 l), octets-few w places m 0 l)
 
 -- the minimal block of what is kept
-written-kept : (w m : ℕ) (places : Places) (l : List ℕ) → m ≡ 2 ^ w → 0 < w → w ≤ 7 → length l ≤ 64
-    → blockOctets w m (only (keptPlace places) (blockNumbers w m 0 l)) ≡ trim m (keptOctets w places m 0 l)
-written-kept w m places l mark wide narrow short =
-    let xs = keptOctets w places (2 ^ w) 0 l in
-    let few : w * length (trim (2 ^ w) xs) ≤ 511 = omega (arith, octets-reach w places (2 ^ w) l, mul-le-mul-right (length (trim (2 ^ w) xs)) narrow) in
-    rw (mark, ← (octets-numbers w places 0 l)) (trim-written w xs wide few (octets-small w places 0 l))
+written-kept : (w m : ℕ) (places : Places) (l : List ℕ) → m ≡ 2 ^ w → 0 < w
+    → block w m (only (keptPlace places) (blockNumbers w m 0 l)) ≡ trim m (keptOctets w places m 0 l)
+written-kept w m places l mark wide =
+    rw (mark, ← (octets-numbers w places 0 l)) (trim-written w (keptOctets w places (2 ^ w) 0 l) wide (octets-small w places 0 l))
 
 -- nothing is kept exactly if all kept octets are 0
 empty-kept : (w m : ℕ) (places : Places) (l : List ℕ) → m ≡ 2 ^ w → isEmpty (only (keptPlace places) (blockNumbers w m 0 l)) ≡ allZero (keptOctets w places m 0 l)
@@ -310,7 +306,7 @@ pub record Framed (w m : ℕ) (s : List ℕ) : Type 0 where
 
 module _ {w m : ℕ} {s : List ℕ} (f : Framed w m s) (places : Places) (e : ℕ) where
   kept-written : blockKept w m places s e ≡ trim m (keptOctets w places m 0 (drop e s))
-  kept-written = written-kept w m places (drop e s) (f .mark) (f .wide) (f .narrow) (omega (arith, length-drop e s, f .short))
+  kept-written = written-kept w m places (drop e s) (f .mark) (f .wide)
 
   -- whether nothing is kept: not where more than one octet is left, else by the first
   pub keeps-more : 1 < length (blockKept w m places s e) → false ≡ isEmpty (sieved w m places s e)

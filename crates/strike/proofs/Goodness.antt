@@ -41,7 +41,7 @@ pub good-tree : (t : List ℕ) → AreOctets t → GoodParts t → treeOctets (t
 good-tree t o g =
     let T = treeOctets (treeAt t 0) in
     let end : drop (fieldBehind t 0) t ≡ [] = drop-of-length-le t {i = fieldBehind t 0} (omega (arith, g .whole)) in
-    let stands : t ≡ T ++ [] = rw end at (minimal-stands t (omega (arith, g .short)) o 0 (g .fine) (g .minimal)) in
+    let stands : t ≡ T ++ [] = rw end at (minimal-stands t o 0 (g .fine) (g .minimal)) in
     sym (append-nil T) ∙ sym stands
 
 -- so it stays as it is

@@ -14,7 +14,7 @@ use Rattle.tree.specs.Codes.{subCodes, subsBehind, groupCodes, groupBehi
 use Rattle.tree.proofs.Forms.{bits-most}
 
 -- a block ends no earlier than it begins and no later than the octets, and has at most w parameters for each octet of its own
-block-few : (w m p i : ℕ) (l : List ℕ)
+pub block-few : (w m p i : ℕ) (l : List ℕ)
     → (i ≤ blockEnd m i l) × (blockEnd m i l ≤ i + length l) × (length (blockNumbers w m p l) + w * i ≤ w * blockEnd m i l)
 unfolding blockNumbers blockEnd
 block-few w m p i [] = omega arith

@@ -20,7 +20,7 @@ use Rattle.octets.specs.Places.{pick}
 use Rattle.tree.specs.Block.{keep, setBits, blockNumbers, blockEnd, behind, announced, ended}
 use Rattle.tree.specs.Codes.{subsBehind, groupBehind, parsBehind, restBehind, fieldBehind}
 use Rattle.tree.specs.Form.{andThen, isFine, blockForm, formAt, lastForm, subsForm, groupForm, parsForm, restForm, fieldForm}
-use Rattle.tree.specs.Fields.{reachOf, formIn, groupIn}
+use Rattle.tree.specs.Fields.{reachOf, formIn}
 use Rattle.tree.specs.Inner.{Reaches}
 use Rattle.tree.specs.declared.Form.{Form}
 use Rattle.tree.specs.declared.Form.the-variants.{Fine, Early, Wrong, Left, BadLength}
@@ -258,6 +258,12 @@ unfolding subsBehind
 subs-next zero l e n h p = absurd (omega arith)
 subs-next (suc k) l e n h p = let z : suc k - 1 ≡ k = omega arith in rw (z, p)
 
+-- one run of them behind another
+pub subs-add : (k n : ℕ) (l : List ℕ) (e : ℕ) → subsBehind (k + n) l e ≡ subsBehind n l (subsBehind k l e)
+unfolding subsBehind
+subs-add zero n l e = let z : 0 + n ≡ n = omega arith in rw z
+subs-add (suc k) n l e = let z : suc k + n ≡ suc (k + n) = omega arith in rw z (subs-add k n l (behind 64 l e))
+
 -- and behind the last it is here
 pub subs-end : (k : ℕ) (l : List ℕ) (e : ℕ) → k ≤ 0 → subsBehind k l e ≡ e
 unfolding subsBehind
@@ -362,16 +368,6 @@ form-in l at h = rw (le-ltb 64 (length l) h)
 pub form-over : (l : List ℕ) (at : ℕ) → 64 < length l → formIn l at ≡ Left 64
 unfolding formIn
 form-over l at h = rw (lt-ltb 64 (length l) h)
-
--- in a message's octets what stands in a Par(2) block ends as it does there
-pub group-in : (l : List ℕ) (e : ℕ) → length l ≤ 64 → groupIn l e ≡ groupBehind l e
-unfolding groupIn
-group-in l e h = rw (le-ltb 64 (length l) h)
-
--- of more octets none is passed
-pub group-over : (l : List ℕ) (e : ℕ) → 64 < length l → groupIn l e ≡ e
-unfolding groupIn
-group-over l e h = rw (lt-ltb 64 (length l) h)
 
 -- ---- a well-formed field lies within the octets
 

@@ -2,6 +2,7 @@ pub mod Numbering
 pub mod Forms
 pub mod Lowest
 pub mod Few
+pub mod Wide
 pub mod Ascending
 pub mod Filling
 pub mod Within

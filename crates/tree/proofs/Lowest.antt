@@ -4,20 +4,21 @@ use Prim.Native.Nat.{ℕ, zero, suc, _+_, _-_, _/_, _%_, _^_, _<_, _≤_}
 use mathlib.Core.Path.{_≡_, refl, sym, ap, _∙_}
 use mathlib.Core.Bool.{false}
 use mathlib.Core.List.{List, [], _∷_}
-use native.Mathlib.Nat.{div-one, pow-suc}
+use native.Mathlib.Nat.{div-one, mod-eq-of-lt, pow-suc}
 use native.Mathlib.Numerals.{add-one}
 use native.Mathlib.Omega.{arith}
 use borrow.Author.Tests.{le-ltb, lt-ltb, eq-eqb, ne-eqb}
-use lib.Count.{trailingZeros, under}
+use lib.Count.{ones, trailingZeros, under}
 use lib.Dec.{eqb}
 use lib.ListN.{length}
 use lib.Pow.{field, mod-mod-pow, shr-shr}
 use Rattle.octets.specs.Bits.{odd}
-use Rattle.tree.specs.Block.{keep, setBits}
-use Rattle.tree.specs.Codes.{fieldCodes, fieldBase}
+use Rattle.tree.specs.Block.{keep, setBits, behind}
+use Rattle.tree.specs.Codes.{subsBehind, fieldCodes, fieldBase}
 use Rattle.tree.specs.Fields.{baseOf, codesIn, isIn}
 use Rattle.tree.specs.declared.Field.{Field}
 use Rattle.tree.specs.declared.Field.the-variants.{Identification, Standard}
+use Rattle.tree.proofs.Forms.{announced-ones}
 
 -- ---- the bits of an octet
 
@@ -44,6 +45,22 @@ lowest (suc k) (suc w) p d h pos fits =
         let s : d / 2 ^ suc z ≡ d / 2 / 2 ^ z = sym (shr-shr d 1 z ∙ ap (λ (j : ℕ). d / 2 ^ j) (omega arith)) in
         rw (e, n, i, s) (omega (arith, r .0), r .1, r .2)
     go (suc b) e rest = let i : suc w - 1 ≡ w = omega arith in rw (e, i, div-one d) (omega arith, refl, omega (arith, pow-suc 2 w))
+
+-- so many blocks are left behind the one that it announces
+pub bits-next : (d : ℕ) (l : List ℕ) (e n : ℕ) → (d ≡ 0 → ⊥) → d < 64 → n ≡ behind 64 l e → subsBehind (ones (d / 2 ^ trailingZeros 8 d / 2)) l n ≡ subsBehind (ones d) l e
+unfolding subsBehind
+bits-next d l e n some fits h = rw (one-more, h)
+  where
+    rest : ℕ
+    rest = d / 2 ^ trailingZeros 8 d / 2
+
+    low : Lowest 6 0 d (trailingZeros 8 d)
+    low = lowest 8 6 0 d (omega arith) (omega arith) fits
+
+    one-more : ones d ≡ suc (ones rest)
+    one-more =
+        ap ones (sym (mod-eq-of-lt fits)) ∙ sym (announced-ones 6 0 d) ∙ ap length (low .1)
+        ∙ ap suc (announced-ones _ _ rest ∙ ap ones (mod-eq-of-lt (low .2)))
 
 -- no bit is set in 0
 pub bits-none : (w p : ℕ) → setBits w p 0 ≡ []

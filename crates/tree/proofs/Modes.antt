@@ -58,14 +58,14 @@ spar-append (y ∷ a) r = go (ltb 0 (y / ofS % 512)) (spar-append a r)
 -- ---- in a standard field
 
 -- NPar(1) codes have none
-npar-none : (b p : ℕ) (l : List ℕ) → b ≡ fieldBase 2 → b ≤ p → Ascending p l → AllBelow (b + 449) l → hasSpar l ≡ false
+npar-none : (b p : ℕ) (l : List ℕ) → b ≡ fieldBase 2 → b ≤ p → Ascending p l → AllBelow (b + 512) l → hasSpar l ≡ false
 unfolding hasSpar Ascending AllBelow
 npar-none b p [] q h k u = refl
 npar-none b p (c ∷ l) q h k u =
     rw (le-ltb 0 (c / ofS % 512) (omega (arith, k .0, u .0))) (npar-none b c l q (omega (arith, k .0)) (k .1) (u .1))
 
 -- the first SPar(1) code has one
-spar-first : (b : ℕ) (ss l : List ℕ) (e : ℕ) → b ≡ fieldBase 2 → Ascending 0 ss → AllBelow (0 + 449) ss → hasSpar (parCodes b ss l e) ≡ ltb 0 (length ss)
+spar-first : (b : ℕ) (ss l : List ℕ) (e : ℕ) → b ≡ fieldBase 2 → Ascending 0 ss → AllBelow (0 + 512) ss → hasSpar (parCodes b ss l e) ≡ ltb 0 (length ss)
 unfolding parCodes hasSpar Ascending AllBelow
 spar-first b [] l e q k u = refl
 spar-first b (s ∷ ss) l e q k u =

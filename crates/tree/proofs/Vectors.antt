@@ -1,11 +1,14 @@
 -- Worked examples of the rules, computed from the definitions.
 -- Assumes nothing.
 use mathlib.Core.Path.{_≡_, refl}
-use mathlib.Core.List.{List, [], _∷_}
+use mathlib.Core.List.{List, [], _∷_, _++_}
 use Prim.Native.Nat.{ℕ}
+use lib.ListN.{replicate}
 use Rattle.tree.specs.Block.{setBits, blockNumbers, blockEnd}
 use Rattle.tree.specs.Codes.{codeOf, fieldBase, subCodes, subsBehind, groupCodes, groupBehind, parCodes, parsBehind, restCodes, restBehind, fieldCodes, fieldBehind}
 use Rattle.tree.specs.Form.{blockForm, subsForm, groupForm, parsForm, restForm, fieldForm}
+use Rattle.tree.specs.Wide.{lowFits, fieldFits, codesWide}
+use Rattle.tree.specs.declared.Field.the-variants.{Standard}
 use Rattle.tree.specs.declared.Form.the-variants.{Fine, Early, Wrong}
 
 -- code 2.1.0.11
@@ -61,3 +64,24 @@ newer-s = refl
 pub newer-fine : fieldForm newer 3 ≡ Fine
 unfolding setBits blockNumbers blockEnd subsBehind groupBehind blockForm subsForm groupForm parsForm restForm fieldForm
 newer-fine = refl
+
+-- 80 81, 85 times 00 and a last octet: 88 octets. With C1, position 511 of NPar(2) under SPar(1) 1. With C2, position 512, whose number
+-- would be that of SPar(2) 1 in 80 81 40 41 C0: so it has no code, and the field none
+abbrev pub ofMany : ℕ → List ℕ
+ofMany last = 0x80 ∷ 0x81 ∷ (replicate 85 0 ++ last ∷ [])
+
+pub highest : codesWide Standard (ofMany 0xc1) 0 ≡ codeOf 2 1 0 0 ∷ codeOf 2 1 0 511 ∷ []
+unfolding setBits blockNumbers blockEnd subCodes subsBehind groupCodes groupBehind parCodes parsBehind restCodes restBehind fieldCodes fieldBehind lowFits fieldFits codesWide
+highest = refl
+
+pub too-high : codesWide Standard (ofMany 0xc2) 0 ≡ []
+unfolding setBits blockNumbers blockEnd subCodes subsBehind groupCodes groupBehind parCodes parsBehind restCodes restBehind fieldCodes fieldBehind lowFits fieldFits codesWide
+too-high = refl
+
+pub not-that : codesWide Standard (0x80 ∷ 0x81 ∷ 0x40 ∷ 0x41 ∷ 0xc0 ∷ []) 0 ≡ fieldCodes (fieldBase 2) (ofMany 0xc2) 0
+unfolding setBits blockNumbers blockEnd subCodes subsBehind groupCodes groupBehind parCodes parsBehind restCodes restBehind fieldCodes fieldBehind lowFits fieldFits codesWide
+not-that = refl
+
+pub low-one : codesWide Standard (0x80 ∷ 0x81 ∷ 0x40 ∷ 0x41 ∷ 0xc0 ∷ []) 0 ≡ codeOf 2 1 0 0 ∷ codeOf 2 1 1 0 ∷ []
+unfolding setBits blockNumbers blockEnd subCodes subsBehind groupCodes groupBehind parCodes parsBehind restCodes restBehind fieldCodes fieldBehind lowFits fieldFits codesWide
+low-one = refl

@@ -8,9 +8,10 @@ use lib.Dec.{ltb}
 use lib.ListN.{getD, set}
 use Rattle.octets.specs.Places.{pick}
 use Rattle.tree.specs.Block.{behind, ended}
-use Rattle.tree.specs.Codes.{fieldBehind}
+use Rattle.tree.specs.Codes.{groupBehind, fieldBehind}
 use Rattle.tree.specs.Form.{isFine}
-use Rattle.tree.specs.Fields.{baseOf, codesIn, formIn, reachOf, hasSpar, groupIn}
+use Rattle.tree.specs.Fields.{baseOf, codesIn, formIn, reachOf, hasSpar}
+use Rattle.tree.specs.Wide.{fieldFits}
 use Rattle.tree.specs.declared.Field.{Field}
 use Rattle.tree.specs.declared.Field.the-variants.{Standard}
 use Rattle.tree.specs.declared.Form.{Form}
@@ -54,4 +55,8 @@ TellsBlockBehind s e r = r ≡ behind 64 s e
 
 -- group_behind
 abbrev pub TellsGroupBehind : List ℕ → ℕ → ℕ → Type 0
-TellsGroupBehind s e r = r ≡ groupIn s e
+TellsGroupBehind s e r = r ≡ groupBehind s e
+
+-- field_fits
+abbrev pub TellsFits : List ℕ → ℕ → Bool → Type 0
+TellsFits s at r = r ≡ fieldFits s at

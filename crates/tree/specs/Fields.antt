@@ -7,7 +7,7 @@ use mathlib.Core.List.{List, [], _∷_}
 use lib.Dec.{ltb, eqb}
 use lib.ListN.{length}
 use Rattle.octets.specs.Places.{pick}
-use Rattle.tree.specs.Codes.{fieldBase, sOf, groupBehind, fieldCodes}
+use Rattle.tree.specs.Codes.{fieldBase, sOf, fieldCodes}
 use Rattle.tree.specs.Form.{isFine, fieldForm}
 use Rattle.tree.specs.declared.Field.{Field}
 use Rattle.tree.specs.declared.Field.the-variants.{Identification, Standard}
@@ -57,7 +57,3 @@ hasFirst f l at q = pick (ltb 0 q) (pick (ltb q 8) (isIn (baseOf f + q) (codesIn
 unfoldable pub hasSpar : List ℕ → Bool
 hasSpar [] = false
 hasSpar (c ∷ l) = pick (ltb 0 (sOf c)) true (hasSpar l)
-
--- the place behind what stands in a Par(2) block behind its NPar(2), which ends before e; in more octets than a message has, e
-unfoldable pub groupIn : List ℕ → ℕ → ℕ
-groupIn l e = pick (ltb mostOctets (length l)) e (groupBehind l e)

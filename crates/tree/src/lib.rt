@@ -6,8 +6,10 @@ ghost use Rattle.tree.specs.Block.{behind, announced};
 ghost use Rattle.tree.specs.Codes.{subsBehind, groupBehind, parsBehind, restBehind, fieldBehind};
 ghost use Rattle.tree.specs.Form.{formAt, subsForm, groupForm, parsForm, restForm};
 ghost use Rattle.tree.specs.Fields.{formIn};
+ghost use Rattle.tree.specs.Wide.{octetFits, lowFits, topFits};
 ghost use Rattle.tree.specs.Inner.{Reaches};
-ghost use Rattle.tree.specs.Contracts.{TellsBit8, MarksLast, TellsFine, TellsForm, TellsEnd, TellsBase, TellsSpar, TellsTopBehind, TellsBlockBehind, TellsGroupBehind};
+ghost use Rattle.tree.specs.Contracts.{TellsBit8, MarksLast, TellsFine, TellsForm, TellsEnd, TellsBase, TellsSpar, TellsTopBehind, TellsBlockBehind, TellsGroupBehind, TellsFits};
+ghost use lib.Count.{ones};
 ghost use lib.ListN.{length};
 ghost use mathlib.Core.Path.{_≡_};
 use octets::octet_or_zero;
@@ -26,6 +28,14 @@ pub const OF_F: u32 = OF_S * 512;
 pub const IDENTIFICATION: u32 = OF_F;
 
 pub const STANDARD: u32 = OF_F * 2;
+
+// The highest position that a code can tell.
+const MOST_POSITION: usize = 511;
+
+// So many octets of a block have no higher one: below level 1, where it is the first of the next octet, and at level 1.
+const LOW_OCTETS: usize = MOST_POSITION / 6;
+
+const TOP_OCTETS: usize = MOST_POSITION / 7;
 
 // The two fields that are trees.
 pub enum Field {
@@ -306,29 +316,97 @@ pub fn block_behind(s: &[u8], e: usize) -> usize
     block.at
 }
 
-// The place behind blocks below level 1, count of them.
-fn blocks_behind(s: &[u8], count: usize, start: usize) -> usize
-    ensures { λ r. ⌜ r ≡ subsBehind count (now (s .entry)) start ⌝ }
+// The place behind blocks below level 1, one for each bit that is set in an octet.
+fn blocks_behind(s: &[u8], octet: u8, start: usize) -> usize
+    requires { ⌜ octet < 64 ⌝ }
+    ensures { λ r. ⌜ r ≡ subsBehind (ones octet) (now (s .entry)) start ⌝ }
 {
-    let mut left = count;
-    let mut e = start;
-    while 0 < left {
-        e = block_behind(s, e);
-        left -= 1;
+    let mut bits = octet;
+    let mut at = start;
+    while bits != 0 {
+        bits = bits >> u8::trailing_zeros(bits) >> 1;
+        at = block_behind(s, at);
     }
-    e
+    at
+}
+
+// The place behind the NPar(3) blocks from a place on that the SPar(2) block at another announces.
+fn subs_behind(s: &[u8], e: usize, start: usize) -> usize
+    ensures { λ r. ⌜ r ≡ subsBehind (announced 6 64 (now (s .entry)) e) (now (s .entry)) start ⌝ }
+{
+    let mut at = start;
+    let mut i = e;
+    while i < s.len() {
+        let o = s[i];
+        at = blocks_behind(s, o % 64, at);
+        if 64 <= o {
+            return at;
+        }
+        i += 1;
+    }
+    at
 }
 
 // The place behind what stands in a Par(2) block behind its NPar(2), which ends before a place.
 pub fn group_behind(s: &[u8], e: usize) -> usize
     ensures { λ r. ⌜ TellsGroupBehind (now (s .entry)) e r ⌝ }
 {
-    if MOST_OCTETS < s.len() {
-        return e;
-    }
     if bit8(s, e) {
         return e;
     }
-    let count = ones_in(s, 64, 6, e);
-    blocks_behind(s, count, block_behind(s, e))
+    subs_behind(s, e, block_behind(s, e))
+}
+
+// Whether no position above the highest stands in an octet of a block below level 1, behind others of it.
+fn octet_fits(before: usize, o: u8) -> bool
+    ensures { λ r. ⌜ r ≡ octetFits before o ⌝ }
+{
+    if before < LOW_OCTETS {
+        return true;
+    }
+    if o < 64 {
+        return false;
+    }
+    o % 64 <= 1
+}
+
+// Whether none stands in any block below level 1, wherever it begins.
+fn low_fits(s: &[u8]) -> bool
+    ensures { λ r. ⌜ r ≡ lowFits 0 (now (s .entry)) ⌝ }
+{
+    let mut before = 0usize;
+    let mut i = 0usize;
+    while i < s.len() {
+        let o = s[i];
+        if !octet_fits(before, o) {
+            return false;
+        }
+        i += 1;
+        if o < 64 {
+            before += 1;
+        } else {
+            before = 0;
+        }
+    }
+    true
+}
+
+// Whether none may stand in the block of level 1 at a place.
+fn top_fits(s: &[u8], e: usize) -> bool
+    ensures { λ r. ⌜ r ≡ topFits (now (s .entry)) e ⌝ }
+{
+    top_behind(s, e) - e <= TOP_OCTETS
+}
+
+// Whether none may stand in the field at a place. All octets are looked at, so a field is best lent alone.
+pub fn field_fits(s: &[u8], at: usize) -> bool
+    ensures { λ r. ⌜ TellsFits (now (s .entry)) at r ⌝ }
+{
+    if !top_fits(s, at) {
+        return false;
+    }
+    if !top_fits(s, top_behind(s, at)) {
+        return false;
+    }
+    low_fits(s)
 }

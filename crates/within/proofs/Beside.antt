@@ -5,7 +5,7 @@ use mathlib.Core.Bool.{Bool, true, false}
 use mathlib.Core.List.{List, [], _∷_}
 use mathlib.Core.Path.{_≡_, refl, sym, _∙_}
 use native.Mathlib.Omega.{arith}
-use borrow.Author.Tests.{le-ltb, lt-ltb, eq-eqb, ne-eqb}
+use borrow.Author.Tests.{le-ltb, eq-eqb, ne-eqb}
 use lib.Bits.{bitAnd, and-zero-r}
 use lib.ListN.{length, getD, List·getD-eq-default}
 use Rattle.octets.specs.Places.{pick}
@@ -14,11 +14,13 @@ use Rattle.tree.specs.Codes.{subCodes, subsBehind, groupCodes, groupBehind, par
 use Rattle.tree.specs.Order.{AllFrom}
 use Rattle.within.specs.Pairing.{nextPlace, Compared, BlockWithin, BlockEmpty, subs, pars, AllWithin, GroupWithin, FieldWithin}
 use Rattle.tree.specs.Fields.{baseOf, codesIn, isIn, allIn}
+use Rattle.tree.specs.Wide.{lowFits, fieldFits, codesWide}
 use Rattle.tree.specs.declared.Field.{Field}
 use Rattle.within.specs.declared.Paired.{Paired}
 use Rattle.within.proofs.Apart.{from-lower, from-ascending, none-within, parts-within, first-within}
-use Rattle.tree.proofs.Ascending.{numbers-between, numbers-ascending, sub-between, par-between, group-above}
+use Rattle.tree.proofs.Ascending.{numbers-ascending, low-between, top-between, par-between, group-above}
 use Rattle.tree.proofs.Forms.{behind-stop, behind-go, behind-out}
+use Rattle.tree.proofs.Wide.{fits-parts}
 use Rattle.within.proofs.Stepping.{subOne, parOne, pars-stepped, many-from}
 use Rattle.within.proofs.Taking.{bits-within, numbers-out, numbers-next, left-parts, place-on, place-end, place-out}
 
@@ -124,11 +126,11 @@ empty-lost m o k h x = h (sym x ∙ under-none (o % m) k)
 
 -- ---- what one position announces
 
-module _ (l t : List ℕ) (h : length l ≤ 64) (h′ : length t ≤ 64) (e k : ℕ) {r : Paired} (x : BlockWithin 6 64 l e t k r) where
+module _ (l t : List ℕ) (h : lowFits 0 l ≡ true) (h′ : lowFits 0 t ≡ true) (e k : ℕ) {r : Paired} (x : BlockWithin 6 64 l e t k r) where
   -- the NPar(3) block of an SPar(2) position
   pub sub-found : Compared (subOne l e) (subOne t k) (behind 64 l e) (behind 64 t k) r
   sub-found = record {
-    told = λ y. x .told y ∙ sym (first-within y (numbers 6 64 y l e) (numbers 6 64 y t k) (sub-between y l e h .0) (sub-between y t k h′ .0));
+    told = λ y. x .told y ∙ sym (first-within y (numbers 6 64 y l e) (numbers 6 64 y t k) (low-between y l e h .0) (low-between y t k h′ .0));
     from = x .from;
     to = x .to;
   }
@@ -137,9 +139,9 @@ module _ (l t : List ℕ) (h : length l ≤ 64) (h′ : length t ≤ 64) (e k : 
   par-parts : (y : ℕ) → allIn (parOne l e y) (parOne t k y) ≡ pick (r .fits) (allIn (groupCodes y l (behind 64 l e)) (groupCodes y t (behind 64 t k))) false
   par-parts y =
       first-within y _ _ (par-between y l e h .0) (par-between y t k h′ .0)
-      ∙ parts-within (y + 449) (numbers 6 64 y l e) (groupCodes y l (behind 64 l e)) (numbers 6 64 y t k) (groupCodes y t (behind 64 t k))
-      (numbers-between 6 64 y l e (omega arith) h .1) (from-ascending (y + 449) (y + 448) _ (omega arith) (group-above y l (behind 64 l e) h))
-      (numbers-between 6 64 y t k (omega arith) h′ .1) (from-ascending (y + 449) (y + 448) _ (omega arith) (group-above y t (behind 64 t k) h′))
+      ∙ parts-within (y + 512) (numbers 6 64 y l e) (groupCodes y l (behind 64 l e)) (numbers 6 64 y t k) (groupCodes y t (behind 64 t k))
+      (low-between y l e h .1) (from-ascending (y + 512) (y + 511) _ (omega arith) (group-above y l (behind 64 l e) h))
+      (low-between y t k h′ .1) (from-ascending (y + 512) (y + 511) _ (omega arith) (group-above y t (behind 64 t k) h′))
       ∙ rw (sym (x .told y))
 
   pub par-lost : r .fits ≡ false → Compared (parOne l e) (parOne t k) (groupBehind l (behind 64 l e)) (groupBehind t (behind 64 t k)) r
@@ -189,19 +191,20 @@ module _ (l : List ℕ) (e : ℕ) (t : List ℕ) (k : ℕ) where
 -- ---- a field
 
 -- codes of SPar(1) are above all of NPar(1)
-pub rest-from : (b : ℕ) (l : List ℕ) (e : ℕ) → length l ≤ 64 → AllFrom (b + 449) (restCodes b l e)
+pub rest-from : (b : ℕ) (l : List ℕ) (e : ℕ) → lowFits 0 l ≡ true → AllFrom (b + 512) (restCodes b l e)
 unfolding restCodes
 rest-from b l e h =
-    from-lower (b + 449) (b + 1 * ofS) _ (omega arith)
+    from-lower (b + 512) (b + 1 * ofS) _ (omega arith)
     (many-from (pars-stepped l h) b 1 (numbers 7 128 0 l e) (behind 128 l e) (from-ascending 1 0 _ (omega arith) (numbers-ascending 7 128 0 l e)))
 
-module _ (l t : List ℕ) (h : length l ≤ 64) (h′ : length t ≤ 64) (i j : ℕ) where
+module _ (l t : List ℕ) (i j : ℕ) (h : fieldFits l i ≡ true) (h′ : fieldFits t j ≡ true) where
   field-parts : (b : ℕ) → allIn (fieldCodes b l i) (fieldCodes b t j)
       ≡ pick (allIn (numbers 7 128 b l i) (numbers 7 128 b t j)) (allIn (restCodes b l (behind 128 l i)) (restCodes b t (behind 128 t j))) false
   unfolding fieldCodes
   field-parts b =
-      parts-within (b + 449) _ _ _ _
-      (numbers-between 7 128 b l i (omega arith) h .1) (rest-from b l (behind 128 l i) h) (numbers-between 7 128 b t j (omega arith) h′ .1) (rest-from b t (behind 128 t j) h′)
+      let f = fits-parts l i h in
+      let g = fits-parts t j h′ in
+      parts-within (b + 512) _ _ _ _ (top-between b l i (f .0) .1) (rest-from b l (behind 128 l i) (f .2)) (top-between b t j (g .0) .1) (rest-from b t (behind 128 t j) (g .2))
 
   module _ {r : Paired} (x : BlockWithin 7 128 l i t j r) where
     pub field-lost : r .fits ≡ false → FieldWithin l i t j false
@@ -213,18 +216,13 @@ module _ (l t : List ℕ) (h : length l ≤ 64) (h′ : length t ≤ 64) (i j : 
         let v = rw (x .from n, x .to n) at y in
         record { told = λ b. v .told b ∙ sym (field-parts b ∙ rw (sym (x .told b), n)) }
 
--- in octets of a message they are its codes
-pub within-short : (f : Field) (l : List ℕ) (i : ℕ) (t : List ℕ) (j : ℕ) (r : Bool) → length l ≤ 64 → length t ≤ 64 → FieldWithin l i t j r
-    → r ≡ allIn (codesIn f l i) (codesIn f t j)
-unfolding codesIn
-within-short f l i t j r h k x = rw (le-ltb 64 (length l) h, le-ltb 64 (length t) k) (x .told (baseOf f))
+-- in octets of a message, and others that fit, they are the codes
+pub within-codes : (f : Field) (l : List ℕ) (i : ℕ) (t : List ℕ) (j : ℕ) {r : Bool} → length l ≤ 64 → fieldFits t j ≡ true → FieldWithin l i t j r
+    → r ≡ allIn (codesIn f l i) (codesWide f t j)
+unfolding codesIn codesWide
+within-codes f l i t j h k x = rw (le-ltb 64 (length l) h, k) (x .told (baseOf f))
 
--- in no octets there are none, and none in more than a message has
-none-in : (b : ℕ) → fieldCodes b [] 0 ≡ []
-unfolding fieldCodes restCodes parCodes blockNumbers blockEnd
-none-in b = refl
-
-pub within-long : (f : Field) (l : List ℕ) (i : ℕ) (t : List ℕ) (j : ℕ) (r : Bool) → length l ≤ 64 → 64 < length t → FieldWithin l i [] 0 r
-    → r ≡ allIn (codesIn f l i) (codesIn f t j)
-unfolding codesIn
-within-long f l i t j r h k x = rw (le-ltb 64 (length l) h, lt-ltb 64 (length t) k) (rw (none-in (baseOf f)) at (x .told (baseOf f)))
+-- in no octets there are none
+pub within-none : (f : Field) (l : List ℕ) (i : ℕ) {r : Bool} → length l ≤ 64 → FieldWithin l i [] 0 r → r ≡ allIn (codesIn f l i) []
+unfolding codesIn fieldCodes restCodes parCodes blockNumbers blockEnd
+within-none f l i h x = rw (le-ltb 64 (length l) h) (x .told (baseOf f))

@@ -19,6 +19,7 @@ use Rattle.within.proofs.Apart.{from-ascending, in-front}
 use Rattle.tree.proofs.Ascending.{numbers-ascending}
 use Rattle.within.proofs.Beside.{rest-from}
 use Rattle.tree.proofs.Lowest.{in-bits, codes-long}
+use Rattle.tree.proofs.Wide.{low-short}
 use Rattle.within.proofs.Taking.{numbers-next}
 
 -- such a position is a code of the field exactly if its bit is set there
@@ -26,7 +27,7 @@ first-in : (b : ℕ) (l : List ℕ) (at q : ℕ) → length l ≤ 64 → 0 < q �
 unfolding fieldCodes
 first-in b l at q h k less =
     let n : b + (q - 1) + 1 ≡ b + q = omega arith in
-    in-front (b + q) (b + 449) (numbers 7 128 b l at) (restCodes b l (behind 128 l at)) (omega arith) (rest-from b l (behind 128 l at) h)
+    in-front (b + q) (b + 512) (numbers 7 128 b l at) (restCodes b l (behind 128 l at)) (omega arith) (rest-from b l (behind 128 l at) (low-short l h))
     ∙ rw (numbers-next 7 128 b l at)
     (in-front (b + q) (b + 8) (setBits 7 b (getD l at 0)) (numbers 7 128 (b + 7) l (nextPlace 128 l at)) (omega arith)
     (from-ascending (b + 8) (b + 7) _ (omega arith) (numbers-ascending 7 128 (b + 7) l (nextPlace 128 l at))))

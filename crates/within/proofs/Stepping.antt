@@ -1,7 +1,7 @@
 -- Positions with what they announce, held beside others one after the other: one law for those of SPar(2) and for those of SPar(1). The
 -- codes of a position lie below those of the next, so that a code can only be found at its own.
 -- Assumes nothing.
-use Prim.Native.Nat.{ℕ, _+_, _-_, _*_, _≤_, _<_}
+use Prim.Native.Nat.{ℕ, _+_, _*_, _≤_, _<_}
 use mathlib.Core.Bool.{Bool, true, false}
 use mathlib.Core.List.{List, [], _∷_, _++_}
 use mathlib.Core.Logic.{⊎-elim}
@@ -9,16 +9,16 @@ use mathlib.Core.Path.{_≡_, refl, sym, _∙_}
 use native.Mathlib.Omega.{arith}
 use borrow.Author.Tests.{ltb-true, ltb-false, eqb-false}
 use lib.Dec.{ltb, eqb}
-use lib.ListN.{length}
 use Rattle.octets.specs.Places.{pick}
 use Rattle.tree.specs.Block.{numbers, behind}
 use Rattle.tree.specs.Codes.{subCodes, subsBehind, groupCodes, groupBehind, parCodes, parsBehind, ofS}
 use Rattle.tree.specs.Order.{AllBelow, AllFrom}
 use Rattle.within.specs.Pairing.{Compared, BlockWithin, Level, subs, pars, oneOf, OneWithin, AllWithin}
 use Rattle.tree.specs.Fields.{isIn, allIn}
+use Rattle.tree.specs.Wide.{lowFits}
 use Rattle.within.specs.declared.Paired.{Paired}
 use Rattle.within.proofs.Apart.{from-lower, from-append, from-ascending, in-none, in-append, in-behind, both, parts-within}
-use Rattle.tree.proofs.Ascending.{sub-between, par-between}
+use Rattle.tree.proofs.Ascending.{low-between, par-between}
 use Rattle.tree.proofs.Within.{in-cases, in-first, allIn-isIn, isIn-allIn}
 
 -- codes made of positions one after the other, each read at the place behind the one before; those of a position are from low on,
@@ -41,7 +41,7 @@ subOne l e y = y ∷ numbers 6 64 y l e
 abbrev pub parOne : List ℕ → ℕ → ℕ → List ℕ
 parOne l e y = y ∷ (numbers 6 64 y l e ++ groupCodes y l (behind 64 l e))
 
-module _ (l : List ℕ) (h : length l ≤ 64) where
+module _ (l : List ℕ) (h : lowFits 0 l ≡ true) where
   pub subs-stepped : Stepped (subs l) (λ c q. c + q * 512) (subOne l) (λ e. behind 64 l e)
   unfolding subCodes subsBehind AllFrom AllBelow
   subs-stepped = record {
@@ -49,8 +49,8 @@ module _ (l : List ℕ) (h : length l ≤ 64) where
     more = λ c q qs e. refl;
     stay = λ e. refl;
     pass = λ q qs e. refl;
-    from = λ y e. (omega arith, from-ascending y y _ (omega arith) (sub-between y l e h .0));
-    below = λ c q e. let n : c + (q + 1) * 512 ≡ c + q * 512 + 512 = omega arith in rw n (omega arith, sub-between (c + q * 512) l e h .1);
+    from = λ y e. (omega arith, from-ascending y y _ (omega arith) (low-between y l e h .0));
+    below = λ c q e. let n : c + (q + 1) * 512 ≡ c + q * 512 + 512 = omega arith in rw n (omega arith, low-between (c + q * 512) l e h .1);
     rise = λ c q r k. omega arith;
     apart = λ c q. omega arith;
     first = λ y e. in-first y _;

@@ -1,16 +1,17 @@
 // One field held beside another, block by block: whether all codes of the one are codes of the other.
 ghost use Prim.Native.Nat.{_+_, _/_, _^_, _≤_, _<_};
 ghost use Rattle.tree.specs.Block.{behind};
-ghost use lib.ListN.{length, getD};
+ghost use Rattle.tree.specs.Wide.{lowFits, fieldFits};
 ghost use mathlib.Core.Bool.{true};
 ghost use mathlib.Core.Path.{_≡_};
 ghost use Rattle.within.specs.Pairing.{nextPlace, BlockWithin, BlockEmpty, GroupWithin, subs, pars, OneWithin, AllWithin, FieldWithin, nextOctets, nextBit};
-ghost use Rattle.within.specs.Contracts.{TellsFirst, TellsWithin};
+ghost use Rattle.within.specs.Contracts.{TellsFirst, TellsWithin, TellsWithinFar};
 use octets::octet_or_zero;
 use tree::Field;
 use tree::MOST_OCTETS;
 use tree::bit8;
 use tree::block_behind;
+use tree::field_fits;
 use tree::group_behind;
 use tree::top_behind;
 
@@ -182,7 +183,7 @@ fn next_bit(walk: Walk) -> Walk
 
 // The NPar(3) blocks of one SPar(2) position that is set in the other octets: set in the first too, or not.
 fn sub_within(s: &[u8], t: &[u8], mine: bool, pair: Paired) -> Paired
-    requires { ⌜ (length (now s) ≤ 64) × (length (now t) ≤ 64) ⌝ }
+    requires { ⌜ (lowFits 0 (now s) ≡ true) × (lowFits 0 (now t) ≡ true) ⌝ }
     ensures { λ r. ⌜ OneWithin (subs (now (s .entry))) (subs (now (t .entry))) mine pair r ⌝ }
 {
     let from = pair.from;
@@ -195,7 +196,7 @@ fn sub_within(s: &[u8], t: &[u8], mine: bool, pair: Paired) -> Paired
 
 // Whether the SPar(2) block at a place lies within that of other octets, with the NPar(3) blocks behind it.
 fn subs_within(s: &[u8], e: usize, t: &[u8], k: usize) -> Paired
-    requires { ⌜ (length (now s) ≤ 64) × (length (now t) ≤ 64) ⌝ }
+    requires { ⌜ (lowFits 0 (now s) ≡ true) × (lowFits 0 (now t) ≡ true) ⌝ }
     ensures { λ r. ⌜ AllWithin (subs (now (s .entry))) (subs (now (t .entry))) 6 64 (now (s .entry)) e (now (t .entry)) k r ⌝ }
 {
     let mut pair = block_within(s, e, t, k, 6, 64);
@@ -223,7 +224,7 @@ fn subs_within(s: &[u8], e: usize, t: &[u8], k: usize) -> Paired
 
 // Whether what stands in a Par(2) block behind its NPar(2), which ends before a place, lies within the same in other octets.
 fn group_within(s: &[u8], e: usize, t: &[u8], k: usize) -> Paired
-    requires { ⌜ (length (now s) ≤ 64) × (length (now t) ≤ 64) ⌝ }
+    requires { ⌜ (lowFits 0 (now s) ≡ true) × (lowFits 0 (now t) ≡ true) ⌝ }
     ensures { λ r. ⌜ GroupWithin (now (s .entry)) e (now (t .entry)) k r ⌝ }
 {
     if bit8(t, k) {
@@ -248,7 +249,7 @@ fn group_within(s: &[u8], e: usize, t: &[u8], k: usize) -> Paired
 
 // The Par(2) blocks of one SPar(1) position that is set in the other octets: set in the first too, or not.
 fn par_within(s: &[u8], t: &[u8], mine: bool, pair: Paired) -> Paired
-    requires { ⌜ (length (now s) ≤ 64) × (length (now t) ≤ 64) ⌝ }
+    requires { ⌜ (lowFits 0 (now s) ≡ true) × (lowFits 0 (now t) ≡ true) ⌝ }
     ensures { λ r. ⌜ OneWithin (pars (now (s .entry))) (pars (now (t .entry))) mine pair r ⌝ }
 {
     let from = pair.from;
@@ -269,7 +270,7 @@ fn par_within(s: &[u8], t: &[u8], mine: bool, pair: Paired) -> Paired
 
 // Whether the SPar(1) block at a place lies within that of other octets, with the Par(2) blocks behind it.
 fn pars_within(s: &[u8], e: usize, t: &[u8], k: usize) -> Paired
-    requires { ⌜ (length (now s) ≤ 64) × (length (now t) ≤ 64) ⌝ }
+    requires { ⌜ (lowFits 0 (now s) ≡ true) × (lowFits 0 (now t) ≡ true) ⌝ }
     ensures { λ r. ⌜ AllWithin (pars (now (s .entry))) (pars (now (t .entry))) 7 128 (now (s .entry)) e (now (t .entry)) k r ⌝ }
 {
     let mut pair = block_within(s, e, t, k, 7, 128);
@@ -297,7 +298,7 @@ fn pars_within(s: &[u8], e: usize, t: &[u8], k: usize) -> Paired
 
 // Whether the field at a place lies within the field at a place of other octets.
 fn field_within(s: &[u8], i: usize, t: &[u8], j: usize) -> bool
-    requires { ⌜ (length (now s) ≤ 64) × (length (now t) ≤ 64) ⌝ }
+    requires { ⌜ (fieldFits (now s) i ≡ true) × (fieldFits (now t) j ≡ true) ⌝ }
     ensures { λ r. ⌜ FieldWithin (now (s .entry)) i (now (t .entry)) j r ⌝ }
 {
     let first = block_within(s, i, t, j, 7, 128);
@@ -319,4 +320,19 @@ pub fn lies_within(s: &[u8], i: usize, t: &[u8], j: usize, field: Field) -> bool
         return field_within(s, i, &t[0..0], 0);
     }
     field_within(s, i, t, j)
+}
+
+// The same where the other octets may be more than a message has.
+pub fn lies_within_far(s: &[u8], i: usize, t: &[u8], j: usize, field: Field) -> bool
+    ensures { λ r. ⌜ TellsWithinFar (now (s .entry)) i (now (t .entry)) j field r ⌝ }
+{
+    if MOST_OCTETS < s.len() {
+        return true;
+    }
+    if MOST_OCTETS < t.len() {
+        if field_fits(t, j) {
+            return field_within(s, i, t, j);
+        }
+    }
+    lies_within(s, i, t, j, field)
 }

@@ -12,11 +12,11 @@ lies-within-requires c κs = search needs
 returns : tie.Need-returns
 returns c = rw (sym (c .before .lies-within .ensures) ∙ not-true _ (c .if1 .taken))
 
-lies-within-requires-2 : tie.Need-lies-within-requires-2
-lies-within-requires-2 c κs = search needs
+lies-within-far-requires : tie.Need-lies-within-far-requires
+lies-within-far-requires c κs = search needs
 
 returns-2 : tie.Need-returns-2
-returns-2 c = rw (sym (c .before .before .lies-within .ensures) ∙ not-false _ (c .before .if1 .left)) (c .lies-within2 .ensures)
+returns-2 c = rw (sym (c .before .before .lies-within .ensures) ∙ not-false _ (c .before .if1 .left)) (c .lies-within-far .ensures)
 
 pub is-common-spec : {M : Type 1} → statement M
-is-common-spec = tie.close (tie.spec lies-within-requires returns lies-within-requires-2 returns-2)
+is-common-spec = tie.close (tie.spec lies-within-requires returns lies-within-far-requires returns-2)

@@ -7,7 +7,7 @@ use mathlib.Core.Path.{_≡_, refl}
 use borrow.Author.Tests.{not-true, not-false}
 use borrow.Author.Needs.{needs}
 use Rattle.octets.specs.Places.{pick, both}
-use Rattle.tree.specs.Fields.{codesIn}
+use Rattle.tree.specs.Wide.{codesWide}
 use Rattle.tree.specs.declared.Field.the-variants.{Standard}
 use Rattle.choice.specs.Wishes.{standardCodes}
 use Rattle.choice.specs.Choosing.{common, suits}
@@ -17,7 +17,7 @@ use Rattle.choice.proofs.may_propose.Tie as tie
 
 -- a wish is ready, and common where a far list was heard
 told : (own : List ℕ) (known : Bool) (far : List ℕ) (place : ℕ) (ready : Bool) (field : List ℕ)
-    → suits own (farTold known far place) (wish ready field) ≡ both ready (pick known (common own (codesIn Standard far place) (standardCodes field)) true)
+    → suits own (farTold known far place) (wish ready field) ≡ both ready (pick known (common own (codesWide Standard far place) (standardCodes field)) true)
 told own true far place ready field = refl
 told own false far place true field = refl
 told own false far place false field = refl

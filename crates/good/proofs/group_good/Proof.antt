@@ -42,7 +42,7 @@ sub-good-requires c κs = search needs
 
 returns-5 : tie.Need-returns-5
 returns-5 c = let n = c .before in let f = n .before in let p = f .before .before in let k = p .before in let b = k .before .before .before in let s = b .before .before .before in
-    group-on _ _ _ (sym (b .before .bit8 .ensures) ∙ b .if1 .left) (p .spar-places .ensures) (f .before .block-good .ensures) (s .pre .0) (s .pre .2) (k .if3 .left) (f .if4 .left) (n .npar-places .ensures) (c .sub-good .ensures)
+    group-on _ _ _ (sym (b .before .bit8 .ensures) ∙ b .if1 .left) (p .spar-places .ensures) (f .before .block-good .ensures) (s .pre .1) (k .if3 .left) (f .if4 .left) (n .npar-places .ensures) (c .sub-good .ensures)
 
 pub group-good-spec : {M : Type 1} → statement M
 group-good-spec =

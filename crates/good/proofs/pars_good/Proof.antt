@@ -23,7 +23,7 @@ shared-slice-read-octet c = search needs
 
 pars-good-of-requires : tie.Need-pars-good-of-requires Inv-loop μ-loop
 pars-good-of-requires c κs = let i = c .before .before .loop .inv in
-    (omega arith, c .before .before .before .before .pre .0, omega (arith, i .reach), i .some)
+    (omega arith, omega (arith, i .reach), i .some)
 
 returns : tie.Need-returns Inv-loop μ-loop
 returns c = let o = c .before in let t = o .before .before in octets-bad (t .before .loop .inv) (t .loop-test .taken) (o .pars-good-of .ensures) (c .if1 .taken)

@@ -14,7 +14,7 @@ abbrev μ-loop : tie.MeasureT-loop
 μ-loop s octet above start bits₀ q₀ at₀ bits q at = bits
 
 loop-holds : tie.Need-loop-holds Inv-loop μ-loop
-loop-holds c = bits-start (c .before .pre .0) (c .before .pre .3)
+loop-holds c = bits-start (c .before .pre .0) (c .before .pre .2)
 
 cast-bits : tie.Need-cast-bits Inv-loop μ-loop
 cast-bits c = omega (arith, bits-reach (c .before .loop .inv) (c .loop-test .taken))
@@ -35,8 +35,8 @@ add-par-good : tie.Need-add-par-good Inv-loop μ-loop
 add-par-good c = omega (arith, bits-reach (c .before .loop .inv) (c .loop-test .taken))
 
 par-good-requires : tie.Need-par-good-requires Inv-loop μ-loop
-par-good-requires c κs = let p = c .before .before .before .pre in let k = bits-code (c .before .loop .inv) (c .loop-test .taken) (p .2) in
-    (p .1, k .0, k .1, k .2)
+par-good-requires c κs = let k = bits-code (c .before .loop .inv) (c .loop-test .taken) (c .before .before .before .pre .1) in
+    (k .0, k .1, k .2)
 
 returns : tie.Need-returns Inv-loop μ-loop
 returns c = let p = c .before in let t = p .before in bits-bad (t .before .loop .inv) (t .loop-test .taken) (p .par-good .ensures) (c .if1 .taken)

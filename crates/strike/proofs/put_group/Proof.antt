@@ -3,7 +3,6 @@
 use mathlib.Core.Path.{refl, sym, _∙_}
 use native.Mathlib.Omega.{arith}
 use borrow.Author.Needs.{needs}
-use Rattle.tree.proofs.Forms.{group-in}
 use Rattle.strike.proofs.Going.{puts-none, behind-within, group-ended, group-empty, group-room, group-room-behind, group-puts}
 use Rattle.strike.proofs.put_group.Statement.{statement}
 use Rattle.strike.proofs.put_group.Tie as tie
@@ -28,7 +27,7 @@ group-behind-requires c κs = search needs
 returns-2 : tie.Need-returns-2
 returns-2 c = let n = c .before .before in let p = n .before in let b = p .before .before in let s = b .before .before .before in let a = s .args in
     rw (group-empty (a .keep) (a .c) (a .s .now) (a .spot .from) (p .spar-places .ensures) (sym (b .bit8 .ensures) ∙ p .before .if1 .left) (sym (n .keeps-none .ensures) ∙ c .before .if2 .taken))
-    (puts-none (c .group-behind .ensures ∙ group-in (a .s .now) (a .spot .from) (s .pre .0)) (a .out .now) (a .spot .to))
+    (puts-none (c .group-behind .ensures) (a .out .now) (a .spot .to))
 
 put-block-requires : tie.Need-put-block-requires
 put-block-requires c κs = let n = c .before .before in let p = n .before in let b = p .before .before in let s = b .before .before .before in let a = s .args in (

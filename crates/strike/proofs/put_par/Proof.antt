@@ -4,7 +4,6 @@ use mathlib.Core.Path.{sym, ap, _∙_}
 use native.Mathlib.Omega.{arith}
 use borrow.Author.Needs.{needs}
 use Rattle.tree.specs.Codes.{groupBehind}
-use Rattle.tree.proofs.Forms.{group-in}
 use Rattle.strike.proofs.Going.{puts-none, par-kept, par-passed}
 use Rattle.strike.proofs.put_par.Statement.{statement}
 use Rattle.strike.proofs.put_par.Tie as tie
@@ -38,7 +37,7 @@ group-behind-requires c κs = search needs
 returns-2 : tie.Need-returns-2
 returns-2 c = let b = c .before in let k = b .before .before in let s = k .before .before .before in let a = s .args in
     rw (par-passed (a .branch .keep) (a .branch .base) (a .branch .places) (a .q) (a .s .now) (a .spot .from) (sym (k .is-kept .ensures) ∙ b .before .if1 .left))
-    (puts-none (c .group-behind .ensures ∙ group-in (a .s .now) (b .block-behind .result) (s .pre .0) ∙ ap (groupBehind (a .s .now)) (b .block-behind .ensures)) (a .out .now) (a .spot .to))
+    (puts-none (c .group-behind .ensures ∙ ap (groupBehind (a .s .now)) (b .block-behind .ensures)) (a .out .now) (a .spot .to))
 
 pub put-par-spec : {M : Type 1} → statement M
 put-par-spec =

@@ -2,7 +2,6 @@
 -- Assumes nothing.
 use mathlib.Core.Path.{refl, sym, _∙_}
 use borrow.Author.Needs.{needs}
-use Rattle.tree.proofs.Forms.{group-in}
 use Rattle.within.proofs.Beside.{group-none, group-past, group-alone, group-both}
 use Rattle.within.proofs.group_within.Statement.{statement}
 use Rattle.within.proofs.group_within.Tie as tie
@@ -31,8 +30,8 @@ group-behind-requires : tie.Need-group-behind-requires
 group-behind-requires c κs = search needs
 
 returns-3 : tie.Need-returns-3
-returns-3 c = let i = c .before in let f = i .before in let b = f .before .before .before .before .before in
-    group-none _ _ _ _ (sym (f .bit83 .ensures) ∙ i .if3 .taken) refl refl (c .group-behind .ensures ∙ group-in _ _ (b .pre .1))
+returns-3 c = let i = c .before in let f = i .before in
+    group-none _ _ _ _ (sym (f .bit83 .ensures) ∙ i .if3 .taken) refl refl (c .group-behind .ensures)
 
 subs-within-requires : tie.Need-subs-within-requires
 subs-within-requires c κs = search needs

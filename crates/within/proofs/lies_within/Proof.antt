@@ -1,9 +1,11 @@
 -- `within::lies_within` meets its contract: by `field_within`; in more octets than a message has there are no codes.
 -- Assumes nothing.
+use mathlib.Core.Path.{sym}
 use borrow.Author.Needs.{needs}
 use Rattle.tree.specs.Fields.{allIn}
-use Rattle.within.proofs.Beside.{within-short, within-long}
 use Rattle.tree.proofs.Lowest.{codes-long}
+use Rattle.tree.proofs.Wide.{fits-short, wide-short}
+use Rattle.within.proofs.Beside.{within-codes, within-none}
 use Rattle.within.proofs.lies_within.Statement.{statement}
 use Rattle.within.proofs.lies_within.Tie as tie
 
@@ -21,16 +23,23 @@ part-field-within-end : tie.Need-part-field-within-end
 part-field-within-end c = search needs
 
 field-within-requires : tie.Need-field-within-requires
-field-within-requires c κs = search needs
+field-within-requires c κs = (fits-short _ _ (search needs), fits-short _ _ (search needs))
 
 returns-2 : tie.Need-returns-2
-returns-2 c = within-long _ _ _ _ _ _ (c .before .before .before .if1 .left) (c .before .before .if2 .taken) (c .field-within .ensures)
+returns-2 c =
+    let n = c .before .before in
+    let a = n .before .before .before .before .args in
+    rw (codes-long (a .field) (a .t .now) (a .j) (n .if2 .taken)) (within-none (a .field) (a .s .now) (a .i) (n .before .if1 .left) (c .field-within .ensures))
 
 field-within-requires-2 : tie.Need-field-within-requires-2
-field-within-requires-2 c κs = search needs
+field-within-requires-2 c κs = (fits-short _ _ (search needs), fits-short _ _ (search needs))
 
 returns-3 : tie.Need-returns-3
-returns-3 c = within-short _ _ _ _ _ _ (c .before .before .if1 .left) (c .before .if2 .left) (c .field-within2 .ensures)
+returns-3 c =
+    let n = c .before in
+    let a = n .before .before .before .before .args in
+    rw (sym (wide-short (a .field) (a .t .now) (a .j) (n .if2 .left)))
+    (within-codes (a .field) (a .s .now) (a .i) (a .t .now) (a .j) (n .before .if1 .left) (fits-short (a .t .now) (a .j) (n .if2 .left)) (c .field-within2 .ensures))
 
 pub lies-within-spec : {M : Type 1} → statement M
 lies-within-spec =

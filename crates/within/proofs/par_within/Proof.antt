@@ -3,7 +3,6 @@
 use mathlib.Core.Path.{refl, _∙_}
 use borrow.Author.Needs.{needs}
 use borrow.Author.Tests.{not-true, not-false}
-use Rattle.tree.proofs.Forms.{group-in}
 use Rattle.within.proofs.Beside.{par-lost, par-found}
 use Rattle.within.proofs.Stepping.{pars-stepped, one-passed, one-both}
 use Rattle.within.proofs.par_within.Statement.{statement}
@@ -18,7 +17,7 @@ group-behind-requires c κs = search needs
 returns : tie.Need-returns
 returns c = let z = c .before in let b = z .before .before .before .before in let a = b .args in
     one-passed (pars-stepped (a .s .now) (b .pre .0)) (pars-stepped (a .t .now) (b .pre .1)) (a .pair) (not-true _ (z .before .if1 .taken)) refl refl
-    (c .group-behind .ensures ∙ group-in _ _ (b .pre .1) ∙ rw (z .block-behind .ensures))
+    (c .group-behind .ensures ∙ rw (z .block-behind .ensures))
 
 block-within-requires : tie.Need-block-within-requires
 block-within-requires c κs = search needs

@@ -85,7 +85,7 @@ returns c =
     let e = f .before in
     let o = e .before .before in
     let s = start o in
-    taken o (p .propose .ensures) (takes-ms _ _ _ _ _ (s .pre .0 .place) (s .pre .2) (f .first-common .ensures) (o .far-offer .ensures) (e .enum-told .given .1))
+    taken o (p .propose .ensures) (takes-ms _ _ _ _ _ (s .pre .0) (s .pre .2) (f .first-common .ensures) (o .far-offer .ensures) (e .enum-told .given .1))
 
 same-length-3 : tie.Need-same-length-3
 same-length-3 c = search needs
@@ -101,7 +101,7 @@ returns-2 c =
     let o = e .before .before in
     let s = start o in
     taken o (p .propose-behind .ensures)
-    (takes-cl-ms _ _ _ _ _ (s .pre .0 .place) (s .pre .2) (f .first-common2 .ensures) (o .far-offer .ensures) (e .enum-told2 .given .1))
+    (takes-cl-ms _ _ _ _ _ (s .pre .0) (s .pre .2) (f .first-common2 .ensures) (o .far-offer .ensures) (e .enum-told2 .given .1))
 
 same-length-5 : tie.Need-same-length-5
 same-length-5 c = search needs
