@@ -86,7 +86,7 @@ pub record Positions : Type 0 where
   pub empty : judged (0x21 ∷ 0x89 ∷ 0x80 ∷ 0x80 ∷ 0x80 ∷ []) readyWish ≡ 3
 
 pub positions : Positions
-unfolding setBits blockNumbers blockEnd subCodes subsBehind groupCodes groupBehind parCodes parsBehind restCodes restBehind fieldCodes fieldBehind blockForm subsForm groupForm parsForm restForm fieldForm codesIn isIn allIn hasSpar lowFits fieldFits codesWide fullAtEnd tight subsMinimal groupMinimal parsMinimal fieldMinimal rowsUnder rowAt rowOf allStandard goodField wishesIn goodRecords allInside tablesNo firstSuiting choice fitsSome fitsReady verdict
+unfolding setBits blockNumbers blockEnd subCodes subsBehind groupCodes groupBehind parCodes parsBehind restCodes restBehind fieldCodes fieldBehind blockForm subsForm groupForm parsForm restForm fieldForm codesIn isIn allIn hasSpar lowFits fieldFits codesWide fullAtEnd tight subsMinimal groupMinimal parsMinimal fieldMinimal printedUnder printedAt printedOf allStandard goodField wishesIn goodRecords allInside tablesNo firstSuiting choice fitsSome fitsReady verdict
 positions =
     record {
       good = refl;

@@ -280,7 +280,7 @@ module _ (w k : ℕ) (wide : 0 < w) (some : 0 < k) where
       go (q ∷ qs) r n = rw (far-all w M p a (q ∷ qs) wide (omega arith) r) (omega arith)
 
   -- of ascending positions a tight block is written
-  pub block-made : (qs : List ℕ) → Ascending 0 qs → Tight w k qs (block w (k * 2 ^ w) qs)
+  pub block-made : (qs : List ℕ) → Ascending 0 qs → Tight w k qs (blockOctets w (k * 2 ^ w) qs)
   block-made qs r =
       let m = made qs 0 0 0 (omega arith) (omega arith) (omega arith) r in
       record { ends = m .ends; reads = m .reads ∙ rw (setBits-zero w 0); full = go qs (m .full) }
@@ -290,7 +290,7 @@ module _ (w k : ℕ) (wide : 0 < w) (some : 0 < k) where
       go (q ∷ qs) f = full-tight (2 ^ w) _ (f (omega arith))
 
   -- a tight block of given positions is the one that is written
-  pub block-back : (qs B : List ℕ) → Tight w k qs B → block w (k * 2 ^ w) qs ≡ B
+  pub block-back : (qs B : List ℕ) → Tight w k qs B → blockOctets w (k * 2 ^ w) qs ≡ B
   block-back qs B t = rw (← (t .reads)) (back 0 B (t .ends) (t .full))
 
 -- ---- bit 8
@@ -353,7 +353,7 @@ pub block-some : (w M : ℕ) (qs : List ℕ) → 0 < length (blockOctets w M qs)
 block-some w M qs = let o = opened w 0 0 qs in rw (o .whole M, length-append (o .before)) (omega arith)
 
 -- a marked block is the block with bit 8 in its delimiter
-pub block-marked : (qs : List ℕ) → Ascending 0 qs → marked (block 6 64 qs) ≡ block 6 192 qs
+pub block-marked : (qs : List ℕ) → Ascending 0 qs → marked (blockOctets 6 64 qs) ≡ blockOctets 6 192 qs
 unfolding marked
 block-marked qs r =
     let o = opened 6 0 0 qs in
@@ -369,7 +369,7 @@ none [] = true
 none (x ∷ l) = false
 
 -- a block and what follows, marked: bit 8 stands in the block if nothing follows
-pub marked-block : (qs Y : List ℕ) → Ascending 0 qs → marked (block 6 64 qs ++ Y) ≡ block 6 (closing (none Y) * 64) qs ++ marked Y
+pub marked-block : (qs Y : List ℕ) → Ascending 0 qs → marked (blockOctets 6 64 qs ++ Y) ≡ blockOctets 6 (closing (none Y) * 64) qs ++ marked Y
 unfolding marked
 marked-block qs [] r = rw (append-nil (blockOctets 6 64 qs), append-nil (blockOctets 6 192 qs)) (block-marked qs r)
 marked-block qs (y ∷ Y) r = marked-append (blockOctets 6 64 qs) (y ∷ Y) (omega arith)
@@ -411,8 +411,8 @@ pub record Stands (w m : ℕ) (qs l : List ℕ) (e : ℕ) (B R : List ℕ) : Typ
   pub minimal : tightAt m l e ≡ true
 
 -- so a block stands there that was written of ascending positions
-block-stands : (w k : ℕ) (qs l : List ℕ) (e : ℕ) (R : List ℕ) → 0 < w → 0 < k → k % 2 ≡ 1 → Ascending 0 qs → drop e l ≡ block w (k * 2 ^ w) qs ++ R
-    → Stands w (2 ^ w) qs l e (block w (k * 2 ^ w) qs) R × At (2 ^ w) k l e (block w (k * 2 ^ w) qs) R
+block-stands : (w k : ℕ) (qs l : List ℕ) (e : ℕ) (R : List ℕ) → 0 < w → 0 < k → k % 2 ≡ 1 → Ascending 0 qs → drop e l ≡ blockOctets w (k * 2 ^ w) qs ++ R
+    → Stands w (2 ^ w) qs l e (blockOctets w (k * 2 ^ w) qs) R × At (2 ^ w) k l e (blockOctets w (k * 2 ^ w) qs) R
 block-stands w k qs l e R wide some o r h =
     let B = blockOctets w (k * 2 ^ w) qs in
     let t = block-made w k wide some qs r in
@@ -430,12 +430,12 @@ block-stands w k qs l e R wide some o r h =
     )
 
 -- that of level 1
-pub top-stands : (qs l : List ℕ) (e : ℕ) (R : List ℕ) → Ascending 0 qs → drop e l ≡ block 7 128 qs ++ R → Stands 7 128 qs l e (block 7 128 qs) R
+pub top-stands : (qs l : List ℕ) (e : ℕ) (R : List ℕ) → Ascending 0 qs → drop e l ≡ blockOctets 7 128 qs ++ R → Stands 7 128 qs l e (blockOctets 7 128 qs) R
 top-stands qs l e R r h = block-stands 7 1 qs l e R (omega arith) (omega arith) refl r h .0
 
 -- that of a lower level: bit 8 stands in the last octet exactly if the delimiter has it
-pub low-stands : (t : Bool) (qs l : List ℕ) (e : ℕ) (R : List ℕ) → Ascending 0 qs → drop e l ≡ block 6 (closing t * 64) qs ++ R
-    → Stands 6 64 qs l e (block 6 (closing t * 64) qs) R × (ended l (behind 64 l e) ≡ t)
+pub low-stands : (t : Bool) (qs l : List ℕ) (e : ℕ) (R : List ℕ) → Ascending 0 qs → drop e l ≡ blockOctets 6 (closing t * 64) qs ++ R
+    → Stands 6 64 qs l e (blockOctets 6 (closing t * 64) qs) R × (ended l (behind 64 l e) ≡ t)
 low-stands t qs l e R r h =
     let k = closing-odd t in
     let s = block-stands 6 (closing t) qs l e R (omega arith) (k .0) (k .1) r h in

@@ -22,7 +22,7 @@ use Rattle.tree.proofs.Forms.{and-parts}
 use Rattle.tree.specs.Form.{andThen, lastForm, blockForm, formAt, subsForm, groupForm, parsForm, restForm, fieldForm}
 use Rattle.tree.specs.Wide.{fieldFits}
 use Rattle.tree.specs.declared.Form.the-variants.{Fine, Wrong}
-use Rattle.meaning.specs.Written.{block, marked}
+use Rattle.meaning.specs.Written.{blockOctets, marked}
 use Rattle.meaning.specs.Minimal.{tightAt, subsMinimal, groupMinimal, parsMinimal, fieldMinimal}
 use Rattle.meaning.proofs.Trees.{Sub, subPlaces, subsOctets, lowerOctets, parOctets, parsOctets, treeOctets}
 use Rattle.meaning.proofs.Blocks.{Ends, last, more, ends-at, shorter, block-back, closing, none}
@@ -221,7 +221,7 @@ module _ (l : List ℕ) (octets : AreOctets l) where
       let p = and-parts (formAt 64 l e) _ f in
       let q = and-parts (groupForm l x) (parsForm (length ss) l y) (p .1) in
       let g = group-kept x (q .0) in
-      rw (marked-lower ns gs (numbers-ascending 6 64 0 l e), append-assoc (block 6 (closing (none gs) * 64) ns) G P)
+      rw (marked-lower ns gs (numbers-ascending 6 64 0 l e), append-assoc (blockOctets 6 (closing (none gs) * 64) ns) G P)
       (low-kept e (none gs) _ (G ++ P) _ (p .0) (λ u. g .1 (both-true (groupMinimal l x) _ u .0))
       (kept-on (groupMinimal l x) _ l x y _ G P (g .0 .less) (λ t u. g .0 .same t) (pars-kept ss y (q .1))))
 

@@ -55,10 +55,10 @@ none-lower [] = refl
 none-lower (g ∷ gs) = block-there (subPlaces (g ∷ gs)) (subsOctets (g ∷ gs))
 
 -- a block and what follows in its Par(2) block, marked: bit 8 stands in it if no nodes follow
-pub marked-subs : (ks : List ℕ) (gs : List Sub) → Ascending 0 ks → marked (block 6 64 ks ++ subsOctets gs) ≡ block 6 (closing (none gs) * 64) ks ++ marked (subsOctets gs)
+pub marked-subs : (ks : List ℕ) (gs : List Sub) → Ascending 0 ks → marked (blockOctets 6 64 ks ++ subsOctets gs) ≡ blockOctets 6 (closing (none gs) * 64) ks ++ marked (subsOctets gs)
 marked-subs ks gs r = rw (marked-block ks (subsOctets gs) r, none-subs gs)
 
-pub marked-lower : (ns : List ℕ) (gs : List Sub) → Ascending 0 ns → marked (block 6 64 ns ++ lowerOctets gs) ≡ block 6 (closing (none gs) * 64) ns ++ marked (lowerOctets gs)
+pub marked-lower : (ns : List ℕ) (gs : List Sub) → Ascending 0 ns → marked (blockOctets 6 64 ns ++ lowerOctets gs) ≡ blockOctets 6 (closing (none gs) * 64) ns ++ marked (lowerOctets gs)
 marked-lower ns gs r = rw (marked-block ns (lowerOctets gs) r, none-lower gs)
 
 -- the NPar(3) blocks
@@ -71,7 +71,7 @@ subs-read c ((sub t ks) ∷ gs) l e R w h b =
     let B = blockOctets 6 (closing (none gs) * 64) ks in
     let S = marked (subsOctets gs) in
     let up = ascends 0 ks (w .0) in
-    let whole : marked (block 6 64 ks ++ subsOctets gs) ≡ B ++ S = marked-subs ks gs up in
+    let whole : marked (blockOctets 6 64 ks ++ subsOctets gs) ≡ B ++ S = marked-subs ks gs up in
     let s = low-stands (none gs) ks l e (S ++ R) up (h ∙ rw (whole, append-assoc B S R)) in
     let ih = subs-read c gs l (behind 64 l e) R (w .1) (s .0 .rest) (s .1) in
     record {
@@ -115,7 +115,7 @@ pars-read b ((par s ns gs) ∷ ps) l e R w h =
     let G = marked (lowerOctets gs) in
     let P = parsOctets ps in
     let up = ascends 0 ns (w .0) in
-    let whole : marked (block 6 64 ns ++ lowerOctets gs) ≡ B ++ G = marked-lower ns gs up in
+    let whole : marked (blockOctets 6 64 ns ++ lowerOctets gs) ≡ B ++ G = marked-lower ns gs up in
     let a = low-stands (none gs) ns l e (G ++ (P ++ R)) up (h ∙ rw (whole, append-assoc (B ++ G) P R, append-assoc B G (P ++ R))) in
     let x = behind 64 l e in
     let g = group-read c gs l x (P ++ R) (w .1) (w .2) (a .0 .rest) (a .1) in

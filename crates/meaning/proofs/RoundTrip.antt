@@ -28,7 +28,7 @@ use Rattle.message.proofs.Room.{codes-fit}
 use Rattle.meaning.specs.Meaning.{allShaped, ascending, allParented}
 use Rattle.meaning.specs.Written.{blockOctets, marked, run, from, written}
 use Rattle.meaning.specs.Minimal.{fieldMinimal, messageMinimal}
-use Rattle.meaning.specs.Writing.{Writing, sent, declinedIf, isEmpty, endsThere, nsAgrees, messageOctets, checkedWriting, listWriting, writeMessage, Writable}
+use Rattle.meaning.specs.Writing.{Writing, sent, refusedIf, isEmpty, endsThere, nsAgrees, messageOctets, checkedWriting, listWriting, writeMessage, Writable}
 use Rattle.meaning.proofs.Trees.{Sub, sub, Par, par, Tree, tree, subPlaces, parPlaces, subsOctets, lowerOctets, parOctets, parsOctets, treeOctets, Rising, GoodSubs, GoodPars, GoodTree, ascends}
 use Rattle.meaning.proofs.Blocks.{Ends, last, more, block-made}
 use Rattle.meaning.proofs.Growing.{Within, within-at, treeOf, written-tree}
@@ -251,8 +251,8 @@ eight-ends m k B h (last a e) = (omega arith, tt)
 eight-ends m k B h (more a C e r) = (omega arith, eight-ends m k C h r)
 
 -- a block that is written
-eight-block : (w : ℕ) (qs : List ℕ) → 0 < w → 2 ^ w + 1 * 2 ^ w ≤ 256 → Rising 0 qs → Eight (block w (1 * 2 ^ w) qs)
-eight-block w qs p h r = eight-ends (2 ^ w) 1 (block w (1 * 2 ^ w) qs) h (block-made w 1 p (omega arith) qs (ascends 0 qs r) .ends)
+eight-block : (w : ℕ) (qs : List ℕ) → 0 < w → 2 ^ w + 1 * 2 ^ w ≤ 256 → Rising 0 qs → Eight (blockOctets w (1 * 2 ^ w) qs)
+eight-block w qs p h r = eight-ends (2 ^ w) 1 (blockOctets w (1 * 2 ^ w) qs) h (block-made w 1 p (omega arith) qs (ascends 0 qs r) .ends)
 
 -- octets of which the last is marked by bit 8
 eight-marked : (l : List ℕ) → Eight l → Eight (marked l)

@@ -110,7 +110,7 @@ module _ (w : ℕ) where
       go false r = rw (lt-ltb x (2 ^ w) h) (r refl)
 
   -- so it is what is written of the numbers
-  trim-written : (xs : List ℕ) → 0 < w → Small (2 ^ w) xs → block w (2 ^ w) (blockNumbers w (2 ^ w) 0 xs) ≡ trim (2 ^ w) xs
+  trim-written : (xs : List ℕ) → 0 < w → Small (2 ^ w) xs → blockOctets w (2 ^ w) (blockNumbers w (2 ^ w) 0 xs) ≡ trim (2 ^ w) xs
   trim-written xs wide s =
       let one : 1 * 2 ^ w ≡ 2 ^ w = omega arith in
       rw one at (block-back w 1 wide (omega arith) _ _ (record { ends = trim-ends xs s; reads = trim-numbers 0 xs s; full = trim-tight xs s }))
@@ -273,7 +273,7 @@ octets-reach w places m l = omega (arith, trim-reach m (keptOctets w places m 0 
 
 -- the minimal block of what is kept
 written-kept : (w m : ℕ) (places : Places) (l : List ℕ) → m ≡ 2 ^ w → 0 < w
-    → block w m (only (keptPlace places) (blockNumbers w m 0 l)) ≡ trim m (keptOctets w places m 0 l)
+    → blockOctets w m (only (keptPlace places) (blockNumbers w m 0 l)) ≡ trim m (keptOctets w places m 0 l)
 written-kept w m places l mark wide =
     rw (mark, ← (octets-numbers w places 0 l)) (trim-written w (keptOctets w places (2 ^ w) 0 l) wide (octets-small w places 0 l))
 

@@ -77,7 +77,7 @@ fits-parts l at h =
     let q = both-true (topFits l (behind 128 l at)) (lowFits 0 l) (p .1) in
     (p .0, q .0, q .1)
 
-pub wide-none : (f : Field) (l : List ℕ) (at : ℕ) → fieldFits l at ≡ false → codesWide f l at ≡ []
+pub wide-none : (f : Field) (l : List ℕ) (at : ℕ) → fieldFits (drop at l) 0 ≡ false → codesWide f l at ≡ []
 unfolding codesWide
 wide-none f l at h = rw h
 
@@ -105,4 +105,4 @@ fits-short l at h = rw (top-short l at h, top-short l (behind 128 l at) h) (low-
 -- so the codes are those of a message
 pub wide-short : (f : Field) (l : List ℕ) (at : ℕ) → length l ≤ 64 → codesWide f l at ≡ codesIn f l at
 unfolding codesWide
-wide-short f l at h = rw (fits-short l at h) (codes-short f l at h refl)
+wide-short f l at h = rw (fits-short (drop at l) 0 (omega (arith, length-drop at l))) (codes-short f l at h refl)

@@ -6,6 +6,7 @@ use Prim.Native.Nat.{ℕ, _+_, _-_, _/_, _%_}
 use mathlib.Core.Bool.{Bool, true, false}
 use mathlib.Core.List.{List, [], _∷_}
 use lib.Dec.{ltb, leb}
+use lib.ListN.{drop}
 use Rattle.octets.specs.Places.{pick, both}
 use Rattle.tree.specs.Block.{behind}
 use Rattle.tree.specs.Codes.{fieldCodes}
@@ -42,6 +43,6 @@ topFits l e = leb (behind 128 l e - e) topOctets
 unfoldable pub fieldFits : List ℕ → ℕ → Bool
 fieldFits l at = both (topFits l at) (both (topFits l (behind 128 l at)) (lowFits 0 l))
 
--- the codes of the field at a place; where a position above 511 may stand, none
+-- the codes of the field at a place; where a position above 511 may stand from there on, none
 unfoldable pub codesWide : Field → List ℕ → ℕ → List ℕ
-codesWide f l at = pick (fieldFits l at) (fieldCodes (baseOf f) l at) []
+codesWide f l at = pick (fieldFits (drop at l) 0) (fieldCodes (baseOf f) l at) []

@@ -3,11 +3,11 @@
 use Prim.Native.Nat.{ℕ, _+_, _*_, _%_, _^_, _≤_, _<_}
 use mathlib.Core.Bool.{Bool, true, false}
 use mathlib.Core.List.{List, [], _∷_}
-use mathlib.Core.Path.{_≡_, refl, sym, _∙_}
+use mathlib.Core.Path.{_≡_, refl, sym, ap, _∙_}
 use native.Mathlib.Omega.{arith}
 use borrow.Author.Tests.{le-ltb, eq-eqb, ne-eqb}
 use lib.Bits.{bitAnd, and-zero-r}
-use lib.ListN.{length, getD, List·getD-eq-default}
+use lib.ListN.{length, getD, drop, drop-of-length-le, List·getD-eq-default}
 use Rattle.octets.specs.Places.{pick}
 use Rattle.tree.specs.Block.{setBits, blockNumbers, blockEnd, numbers, behind, ended}
 use Rattle.tree.specs.Codes.{subCodes, subsBehind, groupCodes, groupBehind, parCodes, restCodes, fieldCodes, ofS}
@@ -20,6 +20,7 @@ use Rattle.within.specs.declared.Paired.{Paired}
 use Rattle.within.proofs.Apart.{from-lower, from-ascending, none-within, parts-within, first-within}
 use Rattle.tree.proofs.Ascending.{numbers-ascending, low-between, top-between, par-between, group-above}
 use Rattle.tree.proofs.Forms.{behind-stop, behind-go, behind-out}
+use Rattle.tree.proofs.Shifted.{same-codes}
 use Rattle.tree.proofs.Wide.{fits-parts}
 use Rattle.within.proofs.Stepping.{subOne, parOne, pars-stepped, many-from}
 use Rattle.within.proofs.Taking.{bits-within, numbers-out, numbers-next, left-parts, place-on, place-end, place-out}
@@ -217,12 +218,29 @@ module _ (l t : List ℕ) (i j : ℕ) (h : fieldFits l i ≡ true) (h′ : field
         record { told = λ b. v .told b ∙ sym (field-parts b ∙ rw (sym (x .told b), n)) }
 
 -- in octets of a message, and others that fit, they are the codes
-pub within-codes : (f : Field) (l : List ℕ) (i : ℕ) (t : List ℕ) (j : ℕ) {r : Bool} → length l ≤ 64 → fieldFits t j ≡ true → FieldWithin l i t j r
+pub within-codes : (f : Field) (l : List ℕ) (i : ℕ) (t : List ℕ) (j : ℕ) {r : Bool} → length l ≤ 64 → fieldFits (drop j t) 0 ≡ true → FieldWithin l i t j r
     → r ≡ allIn (codesIn f l i) (codesWide f t j)
 unfolding codesIn codesWide
 within-codes f l i t j h k x = rw (le-ltb 64 (length l) h, k) (x .told (baseOf f))
 
+-- a field lies within another as it does in the other's octets from its place on
+pub within-part : (l : List ℕ) (i : ℕ) (t : List ℕ) (j : ℕ) {r : Bool} → FieldWithin l i (drop j t) 0 r → FieldWithin l i t j r
+within-part l i t j x = record { told = λ b. x .told b ∙ ap (allIn (fieldCodes b l i)) (same-codes (drop j t) t 0 j refl b) }
+
+-- behind the octets there are none
+none-codes : (b : ℕ) → fieldCodes b [] 0 ≡ []
+unfolding fieldCodes restCodes parCodes blockNumbers blockEnd
+none-codes b = refl
+
+pub wide-out : (f : Field) (t : List ℕ) (j : ℕ) → length t ≤ j → codesWide f t j ≡ []
+unfolding codesWide
+wide-out f t j h = rw (same-codes t [] j 0 (drop-of-length-le t {i = j} h) (baseOf f) ∙ none-codes (baseOf f)) (go (fieldFits (drop j t) 0))
+  where
+    go : (b : Bool) → _≡_ {A = List ℕ} (pick b [] []) []
+    go true = refl
+    go false = refl
+
 -- in no octets there are none
 pub within-none : (f : Field) (l : List ℕ) (i : ℕ) {r : Bool} → length l ≤ 64 → FieldWithin l i [] 0 r → r ≡ allIn (codesIn f l i) []
-unfolding codesIn fieldCodes restCodes parCodes blockNumbers blockEnd
-within-none f l i h x = rw (le-ltb 64 (length l) h) (x .told (baseOf f))
+unfolding codesIn
+within-none f l i h x = rw (le-ltb 64 (length l) h) (rw (none-codes (baseOf f)) at (x .told (baseOf f)))

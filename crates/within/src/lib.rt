@@ -322,7 +322,7 @@ pub fn lies_within(s: &[u8], i: usize, t: &[u8], j: usize, field: Field) -> bool
     field_within(s, i, t, j)
 }
 
-// The same where the other octets may be more than a message has.
+// The same where the other octets may be more than a message has; those before the place are not looked at.
 pub fn lies_within_far(s: &[u8], i: usize, t: &[u8], j: usize, field: Field) -> bool
     ensures { λ r. ⌜ TellsWithinFar (now (s .entry)) i (now (t .entry)) j field r ⌝ }
 {
@@ -330,8 +330,11 @@ pub fn lies_within_far(s: &[u8], i: usize, t: &[u8], j: usize, field: Field) -> 
         return true;
     }
     if MOST_OCTETS < t.len() {
-        if field_fits(t, j) {
-            return field_within(s, i, t, j);
+        if j < t.len() {
+            let far = &t[j..];
+            if field_fits(far, 0) {
+                return field_within(s, i, far, 0);
+            }
         }
     }
     lies_within(s, i, t, j, field)

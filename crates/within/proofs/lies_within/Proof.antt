@@ -1,7 +1,9 @@
 -- `within::lies_within` meets its contract: by `field_within`; in more octets than a message has there are no codes.
 -- Assumes nothing.
 use mathlib.Core.Path.{sym}
+use native.Mathlib.Omega.{arith}
 use borrow.Author.Needs.{needs}
+use lib.ListN.{drop, length-drop}
 use Rattle.tree.specs.Fields.{allIn}
 use Rattle.tree.proofs.Lowest.{codes-long}
 use Rattle.tree.proofs.Wide.{fits-short, wide-short}
@@ -39,7 +41,7 @@ returns-3 c =
     let n = c .before in
     let a = n .before .before .before .before .args in
     rw (sym (wide-short (a .field) (a .t .now) (a .j) (n .if2 .left)))
-    (within-codes (a .field) (a .s .now) (a .i) (a .t .now) (a .j) (n .before .if1 .left) (fits-short (a .t .now) (a .j) (n .if2 .left)) (c .field-within2 .ensures))
+    (within-codes (a .field) (a .s .now) (a .i) (a .t .now) (a .j) (n .before .if1 .left) (fits-short (drop (a .j) (a .t .now)) 0 (omega (arith, length-drop (a .j) (a .t .now), n .if2 .left))) (c .field-within2 .ensures))
 
 pub lies-within-spec : {M : Type 1} → statement M
 lies-within-spec =
