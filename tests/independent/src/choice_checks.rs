@@ -3,6 +3,7 @@
 mod choices;
 pub mod drawn;
 mod known;
+mod long;
 mod own_tables;
 mod requests;
 mod single;
@@ -17,6 +18,7 @@ pub fn layer() -> Layer {
     checks.extend(own_tables::checks());
     checks.extend(wishes::checks());
     checks.extend(choices::checks());
+    checks.extend(long::checks());
     checks.extend(verdicts::checks());
     Layer {
         asked: Asked::Chooser,

@@ -3,6 +3,7 @@
 //! block together from its set, and striking.
 
 mod code;
+mod far;
 mod names;
 mod standard;
 mod striking;
@@ -11,6 +12,7 @@ mod tests;
 mod tree;
 
 pub use code::Code;
+pub use far::far_parameters;
 pub use standard::{minimal_parameters, parameters_in_front, standard_place, Parameters};
 pub use striking::{strike, struck};
 

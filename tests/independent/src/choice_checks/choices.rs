@@ -25,19 +25,19 @@ pub fn checks() -> Vec<Check> {
     ]
 }
 
-fn due_if(any_choice: bool) -> u8 {
+pub fn due_if(any_choice: bool) -> u8 {
     match any_choice {
         true => 0,
         false => 11,
     }
 }
 
-fn any_ready(drawn: &Drawn) -> bool {
+pub fn any_ready(drawn: &Drawn) -> bool {
     drawn.wishes.iter().any(|wish| wish.is_ready)
 }
 
 /// Wishes inside the own table, or any own table.
-fn inside_or_not(random: &mut Random) -> Drawn {
+pub fn inside_or_not(random: &mut Random) -> Drawn {
     let drawn = Drawn::some(random);
     match random.bit() {
         true => drawn,
@@ -98,14 +98,14 @@ fn far_has_all(random: &mut Random) -> Vec<Case> {
 
 /// Equal ready wishes, all but one of whose parameters the others have; then
 /// perhaps a ready wish that needs those only.
-struct OneMissing {
-    drawn: Drawn,
-    others: Parameters,
-    due: u8,
+pub struct OneMissing {
+    pub drawn: Drawn,
+    pub others: Parameters,
+    pub due: u8,
 }
 
 impl OneMissing {
-    fn drawn(random: &mut Random) -> OneMissing {
+    pub fn drawn(random: &mut Random) -> OneMissing {
         let mut drawn = Drawn::inside(random, 1).all_ready(true);
         let first = drawn.wishes[0].clone();
         let (rest, missing) = without_one(random, &first.parameters);

@@ -254,20 +254,24 @@ fn far_message(random: &mut Random, kind: u8, standard: &Parameters) -> Layout {
     }
 }
 
-/// The parameters with up to three more that are forbidden in wishes. No
-/// permitted parameter comes in with them.
+/// The parameters with up to three more that are forbidden in wishes.
 pub fn with_noise(random: &mut Random, parameters: &Parameters) -> Parameters {
     let drawn = (0..random.below(4)).map(|_| Code {
         f: 2,
         ..random_code(random, 12)
     });
-    let with_noise = with_parents(drawn);
-    let is_noise = |code: &Code| {
+    with_forbidden_of(&with_parents(drawn), parameters)
+}
+
+/// The parameters with those others that are forbidden in wishes. No permitted
+/// parameter comes in with them.
+pub fn with_forbidden_of(others: &Parameters, parameters: &Parameters) -> Parameters {
+    let is_noise = |code: &&Code| {
         let mut way = code.parents();
         !is_permitted(code) && way.all(|above| !is_permitted(&above) || parameters.contains(&above))
     };
-    let noise = with_noise.into_iter().filter(is_noise);
-    parameters.iter().copied().chain(noise).collect()
+    let noise = others.iter().filter(is_noise);
+    parameters.iter().chain(noise).copied().collect()
 }
 
 #[cfg(test)]

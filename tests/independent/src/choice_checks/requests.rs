@@ -5,6 +5,7 @@ use crate::choice::{Choice, Verdict};
 use crate::chooser::{reply, wish_reply, Request};
 use crate::message;
 use crate::message_checks::layout::Layout;
+use crate::message_checks::requests::MOST_OCTETS;
 use crate::tables::{self, Tables};
 
 const NO_CHOICE: u8 = 11;
@@ -33,6 +34,12 @@ const CHOICE: Operation = Operation {
     replies: &[0, NO_CHOICE],
 };
 
+/// Choices from long fields are counted by themselves as well.
+const CHOICE_FROM_LONG: Operation = Operation {
+    name: "choice from more than 64 octets",
+    ..CHOICE
+};
+
 const VERDICT: Operation = Operation {
     number: 4,
     name: "verdict",
@@ -44,7 +51,7 @@ pub fn outcomes() -> Vec<Outcome> {
         let numbers = operation.replies.iter();
         numbers.map(move |&number| operation.outcome(number))
     };
-    let operations = [CHECK, FIRST_READY, CHOICE, VERDICT];
+    let operations = [CHECK, FIRST_READY, CHOICE, CHOICE_FROM_LONG, VERDICT];
     operations.into_iter().flat_map(of_operation).collect()
 }
 
@@ -74,9 +81,18 @@ impl Far {
         Far { octets, place }
     }
 
+    fn field(&self) -> &[u8] {
+        &self.octets[self.place..]
+    }
+
+    /// The S parameters of a message.
     fn parameters(&self) -> message::Parameters {
-        let field = &self.octets[self.place..];
-        message::parameters_in_front(field).expect("a well-formed field")
+        message::parameters_in_front(self.field()).expect("a well-formed field")
+    }
+
+    /// Those of a list, whose field may be longer than any message.
+    fn list_parameters(&self) -> message::Parameters {
+        message::far_parameters(self.field()).expect("a well-formed field")
     }
 }
 
@@ -134,8 +150,11 @@ pub fn first_ready(own: &[u8], wishes: &[u8]) -> Case {
 /// The choice from a far list.
 pub fn choice(own: &[u8], wishes: &[u8], far: &Far) -> Case {
     let tables = good_tables(own, wishes);
-    let choice = tables.first_ready_common(&far.parameters());
-    CHOICE.choice_case(CHOICE.request(own, wishes, far), choice)
+    let choice = tables.first_ready_common(&far.list_parameters());
+    let case = CHOICE.choice_case(CHOICE.request(own, wishes, far), choice);
+    let is_long = far.field().len() > MOST_OCTETS;
+    let number = case.outcome.number;
+    case.counted_too(is_long.then(|| CHOICE_FROM_LONG.outcome(number)))
 }
 
 /// The verdict on a far MS.

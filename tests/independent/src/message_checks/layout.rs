@@ -211,6 +211,19 @@ impl Field {
         self
     }
 
+    /// The field with needless octets at the ends of any blocks until it has
+    /// this length.
+    pub fn padded(mut self, random: &mut Random, length: usize) -> Field {
+        while self.octets().len() < length {
+            let blocks = match random.bit() {
+                true => self.npar_blocks().collect(),
+                false => self.spar_blocks().collect(),
+            };
+            add_octet(random, blocks, nothing);
+        }
+        self
+    }
+
     pub fn octets(&self) -> Vec<u8> {
         let mut octets = marked(&self.npars, LEVEL_1_LAST);
         octets.extend(marked(&self.spars, LEVEL_1_LAST));
