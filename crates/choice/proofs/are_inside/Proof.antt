@@ -25,9 +25,6 @@ loop-holds c = walk-start (c .before .before .args .run .now) (allInside (c .bef
 entry-at-requires : tie.Need-entry-at-requires Inv-loop μ-loop
 entry-at-requires c κs = c .before .loop .inv .within
 
-enum-known-x : tie.Need-enum-known-x Inv-loop μ-loop
-enum-known-x c = search needs
-
 -- the record that `entry_at` gave
 found : (c : tie.After-x Inv-loop μ-loop) → let l = c .before .before .before .before in Enters (l .before .before .before .args .run .now) (l .loop .at) (Record (c .x .given .0 .0))
 found c = rw (c .x .given .1) at (c .before .before .entry-at .ensures)
@@ -41,16 +38,10 @@ part-lies-within-start c = omega (arith, found (c .before) .2, found (c .before)
 part-lies-within-end : tie.Need-part-lies-within-end Inv-loop μ-loop
 part-lies-within-end c = omega (arith, found (c .before) .3)
 
-lies-within-requires : tie.Need-lies-within-requires Inv-loop μ-loop
-lies-within-requires c κs = search needs
-
 returns : tie.Need-returns Inv-loop μ-loop
 unfolding allInside
 returns c = let x = c .before .before .before .before in let e = sym (c .before .lies-within .ensures) ∙ not-true _ (c .if1 .taken) in
     walk-settled _ _ _ _ _ (x .before .before .before .before .loop .inv) (x .x .given .0 .0) false (x .before .before .before .loop-test .taken) (found x) (λ ws. rw e)
-
-enum-told : tie.Need-enum-told Inv-loop μ-loop
-enum-told c = search needs
 
 returns-2 : tie.Need-returns-2 Inv-loop μ-loop
 unfolding allInside
@@ -81,13 +72,13 @@ are-inside-spec =
     μ-loop
     loop-holds
     entry-at-requires
-    enum-known-x
+    (λ c. search needs)
     sub-lies-within
     part-lies-within-start
     part-lies-within-end
-    lies-within-requires
+    (λ c κs. search needs)
     returns
-    enum-told
+    (λ c. search needs)
     returns-2
     sub-left
     loop-less

@@ -7,22 +7,13 @@ use Rattle.choice.specs.Tables.{tablesNo}
 use Rattle.choice.proofs.check_tables.Statement.{statement}
 use Rattle.choice.proofs.check_tables.Tie as tie
 
-is-good-requires : tie.Need-is-good-requires
-is-good-requires c κs = search needs
-
 returns : tie.Need-returns
 unfolding tablesNo
 returns c = rw (sym (c .before .is-good .ensures) ∙ not-true _ (c .if1 .taken))
 
-are-good-wishes-requires : tie.Need-are-good-wishes-requires
-are-good-wishes-requires c κs = search needs
-
 returns-2 : tie.Need-returns-2
 unfolding tablesNo
 returns-2 c = let o = c .before .before in rw (sym (o .before .is-good .ensures) ∙ not-false _ (o .if1 .left), sym (c .before .are-good-wishes .ensures) ∙ not-true _ (c .if2 .taken))
-
-are-inside-requires : tie.Need-are-inside-requires
-are-inside-requires c κs = search needs
 
 returns-3 : tie.Need-returns-3
 unfolding tablesNo
@@ -42,10 +33,10 @@ pub check-tables-spec : {M : Type 1} → statement M
 check-tables-spec =
     tie.close
     (tie.spec
-    is-good-requires
+    (λ c κs. search needs)
     returns
-    are-good-wishes-requires
+    (λ c κs. search needs)
     returns-2
-    are-inside-requires
+    (λ c κs. search needs)
     returns-3
     returns-4)

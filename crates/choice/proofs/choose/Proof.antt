@@ -29,9 +29,6 @@ loop-holds c = let a = c .before .before .before .args in
 entry-at-requires : tie.Need-entry-at-requires Inv-loop μ-loop
 entry-at-requires c κs = c .before .loop .inv .2 .within
 
-enum-known-x : tie.Need-enum-known-x Inv-loop μ-loop
-enum-known-x c = search needs
-
 add-number : tie.Need-add-number Inv-loop μ-loop
 add-number c = omega arith
 
@@ -51,9 +48,6 @@ part-may-propose-start c = omega (arith, found (c .before) .2, found (c .before)
 
 part-may-propose-end : tie.Need-part-may-propose-end Inv-loop μ-loop
 part-may-propose-end c = omega (arith, found (c .before) .3)
-
-may-propose-requires : tie.Need-may-propose-requires Inv-loop μ-loop
-may-propose-requires c κs = search needs
 
 sub-t18 : tie.Need-sub-t18 Inv-loop μ-loop
 sub-t18 c = omega (arith, found (c .before .before .before .before) .2)
@@ -77,9 +71,6 @@ loop-again c = let x = c .before .before .before .before in let l = x .before .b
           (λ ws. choice-step _ _ _ _ _ (x .x .given .0 .0) (found x) ws ∙ rw e),
     )
 
-enum-told : tie.Need-enum-told Inv-loop μ-loop
-enum-told c = search needs
-
 returns-2 : tie.Need-returns-2 Inv-loop μ-loop
 unfolding firstSuiting
 returns-2 c = let l = c .before .before .before .before in
@@ -97,16 +88,16 @@ choose-spec =
     μ-loop
     loop-holds
     entry-at-requires
-    enum-known-x
+    (λ c. search needs)
     add-number
     sub-may-propose
     part-may-propose-start
     part-may-propose-end
-    may-propose-requires
+    (λ c κs. search needs)
     sub-t18
     returns
     loop-less
     loop-again
-    enum-told
+    (λ c. search needs)
     returns-2
     returns-3)

@@ -6,11 +6,8 @@ use Rattle.choice.proofs.Chosen.{choice-unheard}
 use Rattle.choice.proofs.first_ready.Statement.{statement}
 use Rattle.choice.proofs.first_ready.Tie as tie
 
-choose-requires : tie.Need-choose-requires
-choose-requires c κs = search needs
-
 returns : tie.Need-returns
 returns c = c .choose .ensures ∙ choice-unheard _ _ _
 
 pub first-ready-spec : {M : Type 1} → statement M
-first-ready-spec = tie.close (tie.spec choose-requires returns)
+first-ready-spec = tie.close (tie.spec (λ c κs. search needs) returns)

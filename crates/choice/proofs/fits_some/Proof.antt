@@ -28,9 +28,6 @@ loop-holds c = let a = c .before .before .args in walk-start (a .run .now) (fits
 entry-at-requires : tie.Need-entry-at-requires Inv-loop μ-loop
 entry-at-requires c κs = c .before .loop .inv .within
 
-enum-known-x : tie.Need-enum-known-x Inv-loop μ-loop
-enum-known-x c = search needs
-
 -- the record that `entry_at` gave
 found : (c : tie.After-x Inv-loop μ-loop) → let l = c .before .before .before .before in Enters (l .before .before .before .args .run .now) (l .loop .at) (Record (c .x .given .0 .0))
 found c = rw (c .x .given .1) at (c .before .before .entry-at .ensures)
@@ -50,17 +47,11 @@ part-lies-in-wish-start c = omega (arith, found (c .before) .2, found (c .before
 part-lies-in-wish-end : tie.Need-part-lies-in-wish-end Inv-loop μ-loop
 part-lies-in-wish-end c = omega (arith, found (c .before) .3)
 
-lies-in-wish-requires : tie.Need-lies-in-wish-requires Inv-loop μ-loop
-lies-in-wish-requires c κs = search needs
-
 returns : tie.Need-returns Inv-loop μ-loop
 returns c = let x = c .before .before .before .before in let l = x .before .before .before .before in let s = l .before .before .before in
     let e = sym (c .before .lies-in-wish .ensures) ∙ c .if1 .taken in
     walk-settled _ _ _ _ _ (l .loop .inv) (x .x .given .0 .0) true (x .before .before .before .loop-test .taken) (found x)
     (λ ws. fits-step (s .args .anyway) _ _ (s .pre) ws ∙ rw e)
-
-enum-told : tie.Need-enum-told Inv-loop μ-loop
-enum-told c = search needs
 
 returns-2 : tie.Need-returns-2 Inv-loop μ-loop
 returns-2 c = let l = c .before .before .before .before in
@@ -89,13 +80,13 @@ fits-some-spec =
     μ-loop
     loop-holds
     entry-at-requires
-    enum-known-x
+    (λ c. search needs)
     sub-lies-in-wish
     part-lies-in-wish-start
     part-lies-in-wish-end
-    lies-in-wish-requires
+    (λ c κs. search needs)
     returns
-    enum-told
+    (λ c. search needs)
     returns-2
     sub-left
     loop-less

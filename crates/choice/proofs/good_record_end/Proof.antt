@@ -9,17 +9,8 @@ use Rattle.choice.proofs.Records.{flag-bad, cut-bad, field-bad, record-
 use Rattle.choice.proofs.good_record_end.Statement.{statement}
 use Rattle.choice.proofs.good_record_end.Tie as tie
 
-shared-slice-read-if1 : tie.Need-shared-slice-read-if1
-shared-slice-read-if1 c = search needs
-
 returns : tie.Need-returns
 returns c = let s = c .before .before .before in flag-bad (s .args .run .now) (s .args .at) (s .pre) (c .if1 .taken)
-
-entry-at-requires : tie.Need-entry-at-requires
-entry-at-requires c κs = search needs
-
-enum-known-x : tie.Need-enum-known-x
-enum-known-x c = search needs
 
 -- the record that `entry_at` gave
 found : (c : tie.After-x) → let s = c .before .before .before .before .before .before in Enters (s .args .run .now) (s .args .at) (Record (c .x .given .0 .0))
@@ -34,15 +25,9 @@ part-is-good-wish-start c = omega (arith, found (c .before) .2, found (c .before
 part-is-good-wish-end : tie.Need-part-is-good-wish-end
 part-is-good-wish-end c = omega (arith, found (c .before) .3)
 
-is-good-wish-requires : tie.Need-is-good-wish-requires
-is-good-wish-requires c κs = search needs
-
 returns-2 : tie.Need-returns-2
 returns-2 c = let x = c .before .before .before .before in let e = x .before .before .before in
     record-good _ _ _ (e .if1 .left) (found x) (sym (c .before .is-good-wish .ensures) ∙ c .if2 .taken)
-
-enum-told : tie.Need-enum-told
-enum-told c = search needs
 
 returns-3 : tie.Need-returns-3
 returns-3 c = let x = c .before .before .before .before in let e = x .before .before .before in
@@ -56,15 +41,15 @@ pub good-record-end-spec : {M : Type 1} → statement M
 good-record-end-spec =
     tie.close
     (tie.spec
-    shared-slice-read-if1
+    (λ c. search needs)
     returns
-    entry-at-requires
-    enum-known-x
+    (λ c κs. search needs)
+    (λ c. search needs)
     sub-is-good-wish
     part-is-good-wish-start
     part-is-good-wish-end
-    is-good-wish-requires
+    (λ c κs. search needs)
     returns-2
-    enum-told
+    (λ c. search needs)
     returns-3
     returns-4)

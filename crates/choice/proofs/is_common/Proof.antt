@@ -6,17 +6,11 @@ use borrow.Author.Needs.{needs}
 use Rattle.choice.proofs.is_common.Statement.{statement}
 use Rattle.choice.proofs.is_common.Tie as tie
 
-lies-within-requires : tie.Need-lies-within-requires
-lies-within-requires c κs = search needs
-
 returns : tie.Need-returns
 returns c = rw (sym (c .before .lies-within .ensures) ∙ not-true _ (c .if1 .taken))
-
-lies-within-far-requires : tie.Need-lies-within-far-requires
-lies-within-far-requires c κs = search needs
 
 returns-2 : tie.Need-returns-2
 returns-2 c = rw (sym (c .before .before .lies-within .ensures) ∙ not-false _ (c .before .if1 .left)) (c .lies-within-far .ensures)
 
 pub is-common-spec : {M : Type 1} → statement M
-is-common-spec = tie.close (tie.spec lies-within-requires returns lies-within-far-requires returns-2)
+is-common-spec = tie.close (tie.spec (λ c κs. search needs) returns (λ c κs. search needs) returns-2)

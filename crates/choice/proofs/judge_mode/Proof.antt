@@ -8,9 +8,6 @@ use Rattle.choice.proofs.Judged.{no-spar}
 use Rattle.choice.proofs.judge_mode.Statement.{statement}
 use Rattle.choice.proofs.judge_mode.Tie as tie
 
-has-spar-requires : tie.Need-has-spar-requires
-has-spar-requires c κs = search needs
-
 returns : tie.Need-returns
 returns c = sym (no-spar _ _ (sym (c .before .has-spar .ensures) ∙ not-true _ (c .if1 .taken)))
 
@@ -36,7 +33,7 @@ pub judge-mode-spec : {M : Type 1} → statement M
 judge-mode-spec =
     tie.close
     (tie.spec
-    has-spar-requires
+    (λ c κs. search needs)
     returns
     fits-some-requires
     returns-2

@@ -12,9 +12,6 @@ use Rattle.choice.proofs.lies_in_wish.Tie as tie
 returns : tie.Need-returns
 returns c = let a = c .before .before .before .before .args in rw (not-true (a .anyway) (c .before .if1 .taken), not-true (a .ready) (c .if2 .taken))
 
-lies-within-requires : tie.Need-lies-within-requires
-lies-within-requires c κs = search needs
-
 returns-2 : tie.Need-returns-2
 returns-2 c =
     let a = c .before .before .before .before .args in
@@ -23,4 +20,4 @@ returns-2 c =
     rw e (c .lies-within .ensures)
 
 pub lies-in-wish-spec : {M : Type 1} → statement M
-lies-in-wish-spec = tie.close (tie.spec returns lies-within-requires returns-2)
+lies-in-wish-spec = tie.close (tie.spec returns (λ c κs. search needs) returns-2)

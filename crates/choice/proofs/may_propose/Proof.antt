@@ -28,11 +28,8 @@ returns c = let a = c .before .before .before .before .args in rw (told (standar
 returns-2 : tie.Need-returns-2
 returns-2 c = let a = c .before .before .before .before .before .args in rw (told (standardCodes (a .own .now)) (a .known) (a .far .now) (a .place) (a .ready) (a .field .now), not-false (a .ready) (c .before .if1 .left), not-true (a .known) (c .if2 .taken))
 
-is-common-requires : tie.Need-is-common-requires
-is-common-requires c κs = search needs
-
 returns-3 : tie.Need-returns-3
 returns-3 c = let a = c .before .before .before .before .before .before .args in rw (told (standardCodes (a .own .now)) (a .known) (a .far .now) (a .place) (a .ready) (a .field .now), not-false (a .ready) (c .before .before .if1 .left), not-false (a .known) (c .before .if2 .left)) (c .is-common .ensures)
 
 pub may-propose-spec : {M : Type 1} → statement M
-may-propose-spec = tie.close (tie.spec returns returns-2 is-common-requires returns-3)
+may-propose-spec = tie.close (tie.spec returns returns-2 (λ c κs. search needs) returns-3)

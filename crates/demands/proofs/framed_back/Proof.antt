@@ -9,26 +9,8 @@ use Rattle.demands.proofs.Trips.{framing-refused, framing-read}
 use Rattle.demands.proofs.framed_back.Statement.{statement}
 use Rattle.demands.proofs.framed_back.Tie as tie
 
-slice-aggregate-write-frame : tie.Need-slice-aggregate-write-frame
-slice-aggregate-write-frame c = search needs
-
-write-frame-requires : tie.Need-write-frame-requires
-write-frame-requires c κs = search needs
-
-enum-known-written : tie.Need-enum-known-written
-enum-known-written c = search needs
-
 returns : tie.Need-returns
 returns c = framing-refused _ _ _ _ _ (c .before .before .write-frame .ensures) (λ n e. miss (1 ∷ 2 ∷ 3 ∷ []) 0 tt (rw e at (c .match .keys2))) _
-
-slice-aggregate-read-back : tie.Need-slice-aggregate-read-back
-slice-aggregate-read-back c = search needs
-
-read-back-requires : tie.Need-read-back-requires
-read-back-requires c κs = search needs
-
-same-length : tie.Need-same-length
-same-length c = search needs
 
 returns-2 : tie.Need-returns-2
 returns-2 c =
@@ -42,11 +24,11 @@ pub framed-back-spec : {M : Type 1} → statement M
 framed-back-spec =
     tie.close
     (tie.spec
-    slice-aggregate-write-frame
-    write-frame-requires
-    enum-known-written
+    (λ c. search needs)
+    (λ c κs. search needs)
+    (λ c. search needs)
     returns
-    slice-aggregate-read-back
-    read-back-requires
-    same-length
+    (λ c. search needs)
+    (λ c κs. search needs)
+    (λ c. search needs)
     returns-2)

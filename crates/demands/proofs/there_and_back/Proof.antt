@@ -8,34 +8,13 @@ use Rattle.demands.proofs.Trips.{writing-refused, written-size, writing
 use Rattle.demands.proofs.there_and_back.Statement.{statement}
 use Rattle.demands.proofs.there_and_back.Tie as tie
 
-slice-aggregate-write-message : tie.Need-slice-aggregate-write-message
-slice-aggregate-write-message c = search needs
-
-write-message-requires : tie.Need-write-message-requires
-write-message-requires c κs = search needs
-
-enum-known-written : tie.Need-enum-known-written
-enum-known-written c = search needs
-
 returns : tie.Need-returns
 returns c = writing-refused _ _ _ _ _ _ _ (c .before .before .write-message .ensures) _ (λ n e. miss (1 ∷ 2 ∷ 3 ∷ 4 ∷ 5 ∷ 6 ∷ 7 ∷ 8 ∷ []) 0 tt (rw e at (c .match .keys2))) _
-
-sub-framed-back : tie.Need-sub-framed-back
-sub-framed-back c = search needs
-
-part-framed-back-start : tie.Need-part-framed-back-start
-part-framed-back-start c = search needs
 
 part-framed-back-end : tie.Need-part-framed-back-end
 part-framed-back-end c =
     let b = c .before .before in
     omega (arith, written-size _ _ _ _ _ _ _ (b .before .before .before .write-message .ensures) (b .written .given .0 .0) (b .written .given .1))
-
-framed-back-requires : tie.Need-framed-back-requires
-framed-back-requires c κs = search needs
-
-same-length : tie.Need-same-length
-same-length c = search needs
 
 returns-2 : tie.Need-returns-2
 returns-2 c =
@@ -46,13 +25,13 @@ pub there-and-back-spec : {M : Type 1} → statement M
 there-and-back-spec =
     tie.close
     (tie.spec
-    slice-aggregate-write-message
-    write-message-requires
-    enum-known-written
+    (λ c. search needs)
+    (λ c κs. search needs)
+    (λ c. search needs)
     returns
-    sub-framed-back
-    part-framed-back-start
+    (λ c. search needs)
+    (λ c. search needs)
     part-framed-back-end
-    framed-back-requires
-    same-length
+    (λ c κs. search needs)
+    (λ c. search needs)
     returns-2)

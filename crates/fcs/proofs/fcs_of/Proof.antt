@@ -23,9 +23,6 @@ loop-holds c = (omega arith, omega arith, refl)
 shared-slice-read-octet-into : tie.Need-shared-slice-read-octet-into Inv-loop μ-loop
 shared-slice-read-octet-into c = omega arith
 
-octet-into-requires : tie.Need-octet-into-requires Inv-loop μ-loop
-octet-into-requires c κs = search needs
-
 add-i : tie.Need-add-i Inv-loop μ-loop
 add-i c = omega arith
 
@@ -55,7 +52,7 @@ fcs-of-spec =
     μ-loop
     loop-holds
     shared-slice-read-octet-into
-    octet-into-requires
+    (λ c κs. search needs)
     add-i
     loop-less
     loop-again

@@ -11,23 +11,11 @@ use Rattle.fill.proofs.Stored.{stores-numbers}
 use Rattle.fill.proofs.fill_bits.Statement.{statement}
 use Rattle.fill.proofs.fill_bits.Tie as tie
 
-fill-numbers-requires : tie.Need-fill-numbers-requires
-fill-numbers-requires c κs = search needs
-
-same-length : tie.Need-same-length
-same-length c = search needs
-
 returns : tie.Need-returns
 returns c =
     let f = c .before .before in
     let e = f .fill-numbers .ensures in
     stores-numbers (e .0) (e .1) (f .before .before .if1 .taken)
-
-fill-numbers-requires-2 : tie.Need-fill-numbers-requires-2
-fill-numbers-requires-2 c κs = search needs
-
-fill-fours-requires : tie.Need-fill-fours-requires
-fill-fours-requires c κs = search needs
 
 -- where there is no room the numbers are not stored
 stored : (c : tie.Joined2) → let a = c .before .before .before .before .args in
@@ -39,9 +27,6 @@ stored c =
 same-length-2 : tie.Need-same-length-2
 same-length-2 c = ap length (stored (c .before .before .before .before)) ∙ simp length-sets
 
-same-length-3 : tie.Need-same-length-3
-same-length-3 c = search needs
-
 returns-2 : tie.Need-returns-2
 returns-2 c =
     let f = c .before .before in
@@ -52,11 +37,11 @@ pub fill-bits-spec : {M : Type 1} → statement M
 fill-bits-spec =
     tie.close
     (tie.spec
-    fill-numbers-requires
-    same-length
+    (λ c κs. search needs)
+    (λ c. search needs)
     returns
-    fill-numbers-requires-2
-    fill-fours-requires
+    (λ c κs. search needs)
+    (λ c κs. search needs)
     same-length-2
-    same-length-3
+    (λ c. search needs)
     returns-2)

@@ -22,12 +22,6 @@ Inv-loop s w p list₀ octets₀ m count₀ above₀ i₀ list octets count abov
 abbrev μ-loop : tie.MeasureT-loop
 μ-loop s w p list₀ octets₀ m count₀ above₀ i₀ list octets count above i = length s - i
 
-cast-m : tie.Need-cast-m Inv-loop μ-loop
-cast-m c = search needs
-
-shl-m : tie.Need-shl-m Inv-loop μ-loop
-shl-m c = search needs
-
 loop-holds : tie.Need-loop-holds Inv-loop μ-loop
 loop-holds c = (octets-start codes-stepped _ _ _, refl)
 
@@ -119,8 +113,8 @@ fill-block-spec =
     (tie.spec
     Inv-loop
     μ-loop
-    cast-m
-    shl-m
+    (λ c. search needs)
+    (λ c. search needs)
     loop-holds
     shared-slice-read-o
     add-i

@@ -11,21 +11,12 @@ fill-block-requires c κs =
     let s = c .before .before .before .before .before in
     (omega arith, s .pre .0, omega (arith, s .pre .1), field-room-one (s .args .base) (s .args .s .now) (s .args .at) (s .args .n) (s .pre .0) (s .pre .2))
 
-top-behind-requires : tie.Need-top-behind-requires
-top-behind-requires c κs = search needs
-
 fill-pars-requires : tie.Need-fill-pars-requires
 fill-pars-requires c κs =
     let e = c .before .before in
     let b = e .before .before .before .before .before in
     let s = b .before .before .before .before .before .before in
     (s .pre .0, s .pre .1, field-room-two (s .args .base) (s .args .s .now) (s .args .at) (s .args .n) (b .fill-block .ensures) (e .top-behind .ensures) (s .pre .0) (s .pre .2))
-
-same-length : tie.Need-same-length
-same-length c = search needs
-
-same-length-2 : tie.Need-same-length-2
-same-length-2 c = search needs
 
 returns : tie.Need-returns
 returns c =
@@ -40,8 +31,8 @@ fill-field-spec =
     tie.close
     (tie.spec
     fill-block-requires
-    top-behind-requires
+    (λ c κs. search needs)
     fill-pars-requires
-    same-length
-    same-length-2
+    (λ c. search needs)
+    (λ c. search needs)
     returns)

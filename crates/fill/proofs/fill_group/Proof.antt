@@ -10,17 +10,11 @@ use Rattle.fill.proofs.Stored.{fills-none, list-size, octets-size}
 use Rattle.fill.proofs.fill_group.Statement.{statement}
 use Rattle.fill.proofs.fill_group.Tie as tie
 
-bit8-requires : tie.Need-bit8-requires
-bit8-requires c κs = search needs
-
 returns : tie.Need-returns
 returns c =
     let s = c .before .before .before .before .before in
     let g = group-ended (s .args .c) (s .args .s .now) (s .args .start .at) (sym (c .before .bit8 .ensures) ∙ c .if1 .taken) in
     rw (g .0, g .1) (fills-none refl _ _ _)
-
-block-behind-requires : tie.Need-block-behind-requires
-block-behind-requires c κs = search needs
 
 -- bit 8 did not end the block
 opened : (c : tie.Else1) → let a = c .before .before .before .before .before .args in let l = a .s .now in let e = a .start .at in
@@ -50,9 +44,9 @@ pub fill-group-spec : {M : Type 1} → statement M
 fill-group-spec =
     tie.close
     (tie.spec
-    bit8-requires
+    (λ c κs. search needs)
     returns
-    block-behind-requires
+    (λ c κs. search needs)
     fill-subs-requires
     same-length
     same-length-2

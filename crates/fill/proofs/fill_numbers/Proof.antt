@@ -45,9 +45,6 @@ add-code-2 c = omega (arith, reach c)
 mul-list : tie.Need-mul-list Inv-loop μ-loop
 mul-list c = omega (arith, room (c .before))
 
-slice-write-list : tie.Need-slice-write-list Inv-loop μ-loop
-slice-write-list c = search needs
-
 add-count : tie.Need-add-count Inv-loop μ-loop
 add-count c = omega (arith, room (c .before))
 
@@ -82,7 +79,7 @@ fill-numbers-spec =
     add-code
     add-code-2
     mul-list
-    slice-write-list
+    (λ c. search needs)
     add-count
     loop-less
     loop-again

@@ -6,20 +6,8 @@ use lib.Seq.{set-out}
 use Rattle.fill.proofs.put_octet.Statement.{statement}
 use Rattle.fill.proofs.put_octet.Tie as tie
 
-cast-list : tie.Need-cast-list
-cast-list c = search needs
-
-slice-write-list : tie.Need-slice-write-list
-slice-write-list c = search needs
-
-same-length : tie.Need-same-length
-same-length c = search needs
-
-returns : tie.Need-returns
-returns c = search needs
-
 returns-2 : tie.Need-returns-2
 returns-2 c = sym (set-out _ _ _ (c .if1 .left))
 
 pub put-octet-spec : {M : Type 1} → statement M
-put-octet-spec = tie.close (tie.spec cast-list slice-write-list same-length returns returns-2)
+put-octet-spec = tie.close (tie.spec (λ c. search needs) (λ c. search needs) (λ c. search needs) (λ c. search needs) returns-2)

@@ -30,19 +30,10 @@ returns-3 c =
     let a = st .args in
     reads-refused _ (a .out .now) 5 TooLong (checked-5 (a .plain .now) (a .size) (st .pre .1) (st .pre .0) (c .before .before .if1 .left) (c .if3 .taken)) refl
 
-sub-n : tie.Need-sub-n
-sub-n c = search needs
-
 slice-aggregate-fcs-of : tie.Need-slice-aggregate-fcs-of
 slice-aggregate-fcs-of c =
     let a = c .before .before .before .before .before .before .args in
     sym (length-take-le (a .size / 8 - 2) (a .plain .now) (omega arith))
-
-fcs-of-requires : tie.Need-fcs-of-requires
-fcs-of-requires c κs = search needs
-
-pair-at-requires : tie.Need-pair-at-requires
-pair-at-requires c κs = search needs
 
 returns-4 : tie.Need-returns-4
 returns-4 c =
@@ -52,12 +43,6 @@ returns-4 c =
     let a = st .args in
     let ox : AreOctets (a .plain .now) = λ i h. sk .shared-slice-known .given i .fits in
     reads-refused _ (a .out .now) 6 WrongCheck (checked-6 (a .plain .now) (a .size) (st .pre .1) (st .pre .0) (a .size / 8 - 2) _ _ _ (e3 .before .before .if1 .left) (omega arith) (omega arith) (omega arith) ox refl refl (c .before .before .fcs-of .ensures) (λ e. c .if4 .taken (e ∙ sym (c .before .pair-at .ensures)))) refl
-
-copy-front-requires : tie.Need-copy-front-requires
-copy-front-requires c κs = search needs
-
-same-length : tie.Need-same-length
-same-length c = search needs
 
 returns-5 : tie.Need-returns-5
 returns-5 c =
@@ -80,11 +65,11 @@ check-content-spec =
     returns
     returns-2
     returns-3
-    sub-n
+    (λ c. search needs)
     slice-aggregate-fcs-of
-    fcs-of-requires
-    pair-at-requires
+    (λ c κs. search needs)
+    (λ c κs. search needs)
     returns-4
-    copy-front-requires
-    same-length
+    (λ c κs. search needs)
+    (λ c. search needs)
     returns-5)

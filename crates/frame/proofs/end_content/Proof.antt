@@ -11,9 +11,6 @@ use borrow.Author.Needs.{needs}
 use Rattle.frame.proofs.end_content.Statement.{statement}
 use Rattle.frame.proofs.end_content.Tie as tie
 
-add-behind : tie.Need-add-behind
-add-behind c = search needs
-
 returns : tie.Need-returns
 returns c =
     let a = c .before .before .before .before .args in
@@ -26,12 +23,6 @@ returns-2 c =
     let l = length-run (a .run .now) (a .count) (st .pre .0) in
     ends-nothing _ (a .at) (a .plain .now) _ (a .scan) (closes-end (a .scan .kept) (take (a .count) (bits (a .run .now))) (a .at + 1) (omega arith))
 
-bit-at-requires : tie.Need-bit-at-requires
-bit-at-requires c κs = search needs
-
-is-one-requires : tie.Need-is-one-requires
-is-one-requires c κs = search needs
-
 returns-3 : tie.Need-returns-3
 returns-3 c =
     let e2 = c .before .before .before in
@@ -39,9 +30,6 @@ returns-3 c =
     let a = st .args in
     ends-nothing _ (a .at) (a .plain .now) _ (a .scan)
     (closes-one (a .run .now) (a .count) (a .at + 1) (c .before .before .bit-at .result) (st .pre .0) (e2 .if2 .left) (c .before .before .bit-at .ensures) (a .scan .kept) (sym (c .before .is-one .ensures) ∙ c .if3 .taken))
-
-put-last-requires : tie.Need-put-last-requires
-put-last-requires c κs = search needs
 
 sub-t15 : tie.Need-sub-t15
 sub-t15 c =
@@ -54,9 +42,6 @@ sub-t16 c =
     let e1 = c .before .before .before .before .before .before .before .before .before in
     let st = e1 .before .before .before .before in
     st .pre .4 (not-false _ (e1 .if1 .left)) .1
-
-same-length : tie.Need-same-length
-same-length c = search needs
 
 returns-4 : tie.Need-returns-4
 returns-4 c =
@@ -72,14 +57,14 @@ pub end-content-spec : {M : Type 1} → statement M
 end-content-spec =
     tie.close
     (tie.spec
-    add-behind
+    (λ c. search needs)
     returns
     returns-2
-    bit-at-requires
-    is-one-requires
+    (λ c κs. search needs)
+    (λ c κs. search needs)
     returns-3
-    put-last-requires
+    (λ c κs. search needs)
     sub-t15
     sub-t16
-    same-length
+    (λ c. search needs)
     returns-4)

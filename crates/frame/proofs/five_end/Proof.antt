@@ -7,9 +7,6 @@ use Rattle.frame.proofs.Fives.{fives, end-front, end-none, end-five}
 use Rattle.frame.proofs.five_end.Statement.{statement}
 use Rattle.frame.proofs.five_end.Tie as tie
 
-sub-if1 : tie.Need-sub-if1
-sub-if1 c = search needs
-
 cast-if1 : tie.Need-cast-if1
 cast-if1 c = omega (arith, trailing-le 8 (255 - c .args .octet))
 
@@ -33,4 +30,4 @@ returns-3 c =
     end-five (e1 .before .args .left) (e1 .before .args .octet) (e1 .before .pre) (omega arith) (e1 .if1 .left) (c .if2 .left)
 
 pub five-end-spec : {M : Type 1} → statement M
-five-end-spec = tie.close (tie.spec sub-if1 cast-if1 returns returns-2 cast-result add-result returns-3)
+five-end-spec = tie.close (tie.spec (λ c. search needs) cast-if1 returns returns-2 cast-result add-result returns-3)

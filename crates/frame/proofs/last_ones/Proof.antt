@@ -6,14 +6,8 @@ use lib.Count.{leading-le}
 use Rattle.frame.proofs.last_ones.Statement.{statement}
 use Rattle.frame.proofs.last_ones.Tie as tie
 
-sub-result : tie.Need-sub-result
-sub-result c = search needs
-
 cast-result : tie.Need-cast-result
 cast-result c = omega (arith, leading-le 8 (255 - c .args .octet))
 
-returns : tie.Need-returns
-returns c = search needs
-
 pub last-ones-spec : {M : Type 1} → statement M
-last-ones-spec = tie.close (tie.spec sub-result cast-result returns)
+last-ones-spec = tie.close (tie.spec (λ c. search needs) cast-result (λ c. search needs))

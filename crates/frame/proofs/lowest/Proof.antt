@@ -12,12 +12,6 @@ use Rattle.frame.proofs.lowest.Tie as tie
 power : (c : tie.Start) → 1 * 2 ^ (c .args .width) % 65536 ≡ 2 ^ (c .args .width)
 power c = shl-exact 1 (c .args .width) 16 (omega arith) (omega (arith, c .pre)) ∙ one-mul (2 ^ (c .args .width))
 
-cast-result : tie.Need-cast-result
-cast-result c = search needs
-
-shl-result : tie.Need-shl-result
-shl-result c = search needs
-
 rem-result : tie.Need-rem-result
 rem-result c = omega (arith, power c, pow-pos (c .args .width))
 
@@ -28,4 +22,4 @@ returns : tie.Need-returns
 returns c = rw (power c)
 
 pub lowest-spec : {M : Type 1} → statement M
-lowest-spec = tie.close (tie.spec cast-result shl-result rem-result cast-result-2 returns)
+lowest-spec = tie.close (tie.spec (λ c. search needs) (λ c. search needs) rem-result cast-result-2 returns)

@@ -37,20 +37,8 @@ alone s = record { parts = sym (append-nil (check s)) }
 put-octets-requires : tie.Need-put-octets-requires
 put-octets-requires c κs = let s = c .before .before .before in inked-front (parts s) (first s)
 
-cast-t12 : tie.Need-cast-t12
-cast-t12 c = search needs
-
-cast-t14 : tie.Need-cast-t14
-cast-t14 c = search needs
-
-slice-aggregate-put-octets : tie.Need-slice-aggregate-put-octets
-slice-aggregate-put-octets c = search needs
-
 put-octets-requires-2 : tie.Need-put-octets-requires-2
 put-octets-requires-2 c κs = let p = c .before .before .before .before in inked-front (alone (p .before .before .before .before)) (second p)
-
-same-length : tie.Need-same-length
-same-length c = search needs
 
 returns : tie.Need-returns
 returns c =
@@ -63,9 +51,9 @@ put-content-spec =
     tie.close
     (tie.spec
     put-octets-requires
-    cast-t12
-    cast-t14
-    slice-aggregate-put-octets
+    (λ c. search needs)
+    (λ c. search needs)
+    (λ c. search needs)
     put-octets-requires-2
-    same-length
+    (λ c. search needs)
     returns)

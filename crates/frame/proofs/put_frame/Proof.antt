@@ -55,12 +55,6 @@ whole c =
     let a = to-start p .args in
     frame-adds (a .info .now) (a .opening) (a .closing) (p .put-flags .ensures) (q .put-content .ensures) (c .put-flags2 .ensures)
 
-fcs-of-requires : tie.Need-fcs-of-requires
-fcs-of-requires c κs = search needs
-
-put-flags-requires : tie.Need-put-flags-requires
-put-flags-requires c κs = search needs
-
 put-content-requires : tie.Need-put-content-requires
 put-content-requires c κs = let p = c .before .before .before in (p .before .before .fcs-of .ensures, ready-less _ (size (to-start p)) (opened p) (omega arith))
 
@@ -69,9 +63,6 @@ put-flags-requires-2 c κs = (omega arith, filled (c .before .before .before))
 
 put-last-requires : tie.Need-put-last-requires
 put-last-requires c κs = closed (c .before .before .before)
-
-same-length : tie.Need-same-length
-same-length c = search needs
 
 returns : tie.Need-returns
 returns c = let p = c .before .before .before .before .before .before in
@@ -83,10 +74,10 @@ pub put-frame-spec : {M : Type 1} → statement M
 put-frame-spec =
     tie.close
     (tie.spec
-    fcs-of-requires
-    put-flags-requires
+    (λ c κs. search needs)
+    (λ c κs. search needs)
     put-content-requires
     put-flags-requires-2
     put-last-requires
-    same-length
+    (λ c. search needs)
     returns)

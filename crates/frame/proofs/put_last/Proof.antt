@@ -5,12 +5,6 @@ use borrow.Author.Needs.{needs}
 use Rattle.frame.proofs.put_last.Statement.{statement}
 use Rattle.frame.proofs.put_last.Tie as tie
 
-slice-write-out : tie.Need-slice-write-out
-slice-write-out c = search needs
-
-same-length : tie.Need-same-length
-same-length c = search needs
-
 returns : tie.Need-returns
 returns c = last-stored (c .before .pre) (c .if1 .taken)
 
@@ -18,4 +12,4 @@ returns-2 : tie.Need-returns-2
 returns-2 c = last-full (c .before .pre) (c .if1 .left)
 
 pub put-last-spec : {M : Type 1} → statement M
-put-last-spec = tie.close (tie.spec slice-write-out same-length returns returns-2)
+put-last-spec = tie.close (tie.spec (λ c. search needs) (λ c. search needs) returns returns-2)

@@ -17,38 +17,20 @@ all c =
     let e : st .args .start .left + 1 - 1 ≡ st .args .start .left = omega arith in
     pieces-none (st .args .octet) (c .five-end .result) (omega arith) (st .pre) (rw e at (c .five-end .ensures))
 
-add-five-end : tie.Need-add-five-end
-add-five-end c = search needs
-
-five-end-requires : tie.Need-five-end-requires
-five-end-requires c κs = search needs
-
 put-pieces-requires : tie.Need-put-pieces-requires
 put-pieces-requires c κs =
     let fe = c .before .before in
     let st = fe .before .before .before in
     (st .pre .0, st .pre .1, all fe .five)
 
-same-length : tie.Need-same-length
-same-length c = search needs
-
-returns : tie.Need-returns
-returns c = search needs
-
 put-bits-requires : tie.Need-put-bits-requires
 put-bits-requires c κs = let e1 = c .before in (omega arith, omega arith, rest-ready (all (e1 .before)) (e1 .if1 .left))
-
-last-ones-requires : tie.Need-last-ones-requires
-last-ones-requires c κs = search needs
 
 sub-t14 : tie.Need-sub-t14
 sub-t14 c =
     let e1 = c .before .before .before .before .before in
     let o = e1 .before .before .before .before .args .octet in
     omega (arith, octet-ones o (c .last-ones .result) (omega arith) (c .last-ones .ensures), all (e1 .before) .last (e1 .if1 .left))
-
-same-length-2 : tie.Need-same-length-2
-same-length-2 c = search needs
 
 returns-2 : tie.Need-returns-2
 returns-2 c =
@@ -61,13 +43,13 @@ pub put-octet-spec : {M : Type 1} → statement M
 put-octet-spec =
     tie.close
     (tie.spec
-    add-five-end
-    five-end-requires
+    (λ c. search needs)
+    (λ c κs. search needs)
     put-pieces-requires
-    same-length
-    returns
+    (λ c. search needs)
+    (λ c. search needs)
     put-bits-requires
-    last-ones-requires
+    (λ c κs. search needs)
     sub-t14
-    same-length-2
+    (λ c. search needs)
     returns-2)

@@ -51,12 +51,6 @@ sub-rest c = let i = c .before .before .before .before .before in rest-some (i .
 sub-size : tie.Need-sub-size Inv-loop μ-loop
 sub-size c = omega (arith, c .before .before .before .before .before .loop-test .taken)
 
-add-five-end : tie.Need-add-five-end Inv-loop μ-loop
-add-five-end c = search needs
-
-five-end-requires : tie.Need-five-end-requires Inv-loop μ-loop
-five-end-requires c κs = search needs
-
 loop-less : tie.Need-loop-less Inv-loop μ-loop
 loop-less c =
     let i = c .before .before .before .before .before .before in
@@ -81,9 +75,6 @@ cast-last-ones c = omega arith
 
 shl-last-ones : tie.Need-shl-last-ones Inv-loop μ-loop
 shl-last-ones c = omega (arith, c .before .before .before .before .before .loop .inv .some)
-
-last-ones-requires : tie.Need-last-ones-requires Inv-loop μ-loop
-last-ones-requires c κs = search needs
 
 sub-t24 : tie.Need-sub-t24 Inv-loop μ-loop
 sub-t24 c =
@@ -115,15 +106,15 @@ put-pieces-spec =
     shr-rest
     sub-rest
     sub-size
-    add-five-end
-    five-end-requires
+    (λ c. search needs)
+    (λ c κs. search needs)
     loop-less
     loop-again
     put-bits-requires-2
     sub-last-ones
     cast-last-ones
     shl-last-ones
-    last-ones-requires
+    (λ c κs. search needs)
     sub-t24
     same-length
     returns)

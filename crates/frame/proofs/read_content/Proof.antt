@@ -26,12 +26,6 @@ loop-holds c =
     let a = c .before .before .args in
     (omega arith, scanned-start (take (a .count) (bits (a .run .now))) (a .start) (a .plain .now))
 
-bit-at-requires : tie.Need-bit-at-requires Inv-loop μ-loop
-bit-at-requires c κs = search needs
-
-is-one-requires : tie.Need-is-one-requires Inv-loop μ-loop
-is-one-requires c κs = search needs
-
 end-content-requires : tie.Need-end-content-requires Inv-loop μ-loop
 end-content-requires c κs =
     let t2 = c .before .before .before .before in
@@ -47,9 +41,6 @@ end-content-requires c κs =
       scanned-ready B (st .args .start) (st .args .plain .now) (al .loop .plain) (way .scan) (way .at) 0 now (st .pre .3) (omega arith),
       scanned-six B (st .args .start) (st .args .plain .now) (al .loop .plain) (way .scan) (way .at) now (t2 .if2 .taken),
     )
-
-same-length : tie.Need-same-length Inv-loop μ-loop
-same-length c = search needs
 
 returns : tie.Need-returns Inv-loop μ-loop
 returns c =
@@ -102,9 +93,6 @@ loop-again c =
       turn (take (st .args .count) (bits (st .args .run .now))) (st .args .start) (st .args .plain .now) (al .loop .inv .1) g,
     )
 
-same-length-2 : tie.Need-same-length-2 Inv-loop μ-loop
-same-length-2 c = search needs
-
 returns-2 : tie.Need-returns-2 Inv-loop μ-loop
 returns-2 c =
     let al = c .before .before in
@@ -121,13 +109,13 @@ read-content-spec =
     Inv-loop
     μ-loop
     loop-holds
-    bit-at-requires
-    is-one-requires
+    (λ c κs. search needs)
+    (λ c κs. search needs)
     end-content-requires
-    same-length
+    (λ c. search needs)
     returns
     take-next-requires
     loop-less
     loop-again
-    same-length-2
+    (λ c. search needs)
     returns-2)

@@ -13,9 +13,6 @@ returns : tie.Need-returns
 unfolding readFrame
 returns c = rw (lt-ltb _ _ (c .if1 .taken)) (record { reply = refl; output = refl })
 
-add-if2 : tie.Need-add-if2
-add-if2 c = search needs
-
 returns-2 : tie.Need-returns-2
 unfolding readFrame
 returns-2 c =
@@ -30,12 +27,6 @@ returns-3 c =
     rw (le-ltb _ _ (c .before .before .if1 .left), le-ltb (length (a .run .now) * 8) (a .count) (omega (arith, c .before .if2 .left)), lt-ltb _ _ (c .if3 .taken))
     (record { reply = refl; output = refl })
 
-read-whole-requires : tie.Need-read-whole-requires
-read-whole-requires c κs = search needs
-
-same-length : tie.Need-same-length
-same-length c = search needs
-
 returns-4 : tie.Need-returns-4
 unfolding readFrame
 returns-4 c =
@@ -47,4 +38,4 @@ returns-4 c =
 pub read-frame-spec : {M : Type 1} → statement M
 read-frame-spec =
     tie.close
-    (tie.spec returns add-if2 returns-2 returns-3 read-whole-requires same-length returns-4)
+    (tie.spec returns (λ c. search needs) returns-2 returns-3 (λ c κs. search needs) (λ c. search needs) returns-4)

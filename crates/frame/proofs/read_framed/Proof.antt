@@ -9,12 +9,6 @@ use borrow.Author.Needs.{needs}
 use Rattle.frame.proofs.read_framed.Statement.{statement}
 use Rattle.frame.proofs.read_framed.Tie as tie
 
-add-count-flags : tie.Need-add-count-flags
-add-count-flags c = search needs
-
-count-flags-requires : tie.Need-count-flags-requires
-count-flags-requires c κs = search needs
-
 returns : tie.Need-returns
 returns c =
     let cf = c .before in
@@ -31,12 +25,6 @@ returns-2 c =
     let B = take (a .count) (bits (a .run .now)) in
     framed-many B (a .start) (a .count) (cf .count-flags .result) (length-run (a .run .now) (a .count) (st .pre .0)) (cf .count-flags .ensures) _ (c .before .if1 .left) (c .if2 .taken)
 
-mul-read-content : tie.Need-mul-read-content
-mul-read-content c = search needs
-
-add-read-content : tie.Need-add-read-content
-add-read-content c = search needs
-
 read-content-requires : tie.Need-read-content-requires
 read-content-requires c κs =
     let cf = c .before .before .before in
@@ -48,12 +36,6 @@ read-content-requires c κs =
       behind-opening B (a .start) (a .count) (cf .count-flags .result) (length-run (a .run .now) (a .count) (st .pre .0)) (cf .count-flags .ensures) (st .pre .2),
       st .pre .3,
     )
-
-enum-told : tie.Need-enum-told
-enum-told c = search needs
-
-enum-known-found : tie.Need-enum-known-found
-enum-known-found c = search needs
 
 count-flags-requires-2 : tie.Need-count-flags-requires-2
 count-flags-requires-2 c κs =
@@ -78,9 +60,6 @@ add-t17 c =
     let w = is-within _ (take (a .count) (bits (a .run .now))) (a .count) _ (rc .read-content .result) (rc .read-content .ensures) _ _ (c .before .before .found .given .1) in
     omega (arith, w .1, c .count-flags2 .ensures, flags-most 3 (drop (c .before .before .found .given .0 .1 .0) (take (a .count) (bits (a .run .now)))))
 
-same-length : tie.Need-same-length
-same-length c = search needs
-
 returns-3 : tie.Need-returns-3
 returns-3 c =
     let rc = c .before .before .before .before in
@@ -89,9 +68,6 @@ returns-3 c =
     let st = cf .before .before .before in
     let a = st .args in
     framed-nothing (take (a .count) (bits (a .run .now))) (a .start) (a .count) (cf .count-flags .result) (length-run (a .run .now) (a .count) (st .pre .0)) (cf .count-flags .ensures) (e2 .before .if1 .left) (e2 .if2 .left) _ (rc .read-content .result) (rc .read-content .ensures) (c .enum-told .given .1)
-
-same-length-2 : tie.Need-same-length-2
-same-length-2 c = search needs
 
 returns-4 : tie.Need-returns-4
 returns-4 c =
@@ -106,19 +82,19 @@ pub read-framed-spec : {M : Type 1} → statement M
 read-framed-spec =
     tie.close
     (tie.spec
-    add-count-flags
-    count-flags-requires
+    (λ c. search needs)
+    (λ c κs. search needs)
     returns
     returns-2
-    mul-read-content
-    add-read-content
+    (λ c. search needs)
+    (λ c. search needs)
     read-content-requires
-    enum-told
-    enum-known-found
+    (λ c. search needs)
+    (λ c. search needs)
     count-flags-requires-2
     mul-t16
     add-t17
-    same-length
+    (λ c. search needs)
     returns-3
-    same-length-2
+    (λ c. search needs)
     returns-4)

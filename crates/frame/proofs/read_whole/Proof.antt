@@ -10,27 +10,12 @@ use borrow.Author.Needs.{needs}
 use Rattle.frame.proofs.read_whole.Statement.{statement}
 use Rattle.frame.proofs.read_whole.Tie as tie
 
-slice-aggregate-read-framed : tie.Need-slice-aggregate-read-framed
-slice-aggregate-read-framed c = search needs
-
-read-framed-requires : tie.Need-read-framed-requires
-read-framed-requires c κs = search needs
-
-enum-told : tie.Need-enum-told
-enum-told c = search needs
-
-enum-known-found : tie.Need-enum-known-found
-enum-known-found c = search needs
-
 returns : tie.Need-returns
 returns c =
     let rf = c .before .before .before .before .before in
     let st = rf .before .before .before .before in
     let a = st .args in
     reads-refused _ (a .out .now) 2 BadFlags (alone-more (take (a .count) (bits (a .run .now))) (a .count) (length-run (a .run .now) (a .count) (st .pre .0)) _ (rf .read-framed .result) (rf .read-framed .ensures) _ _ (c .before .before .found .given .1) (c .if1 .taken)) refl
-
-slice-aggregate-check-content : tie.Need-slice-aggregate-check-content
-slice-aggregate-check-content c = search needs
 
 check-content-requires : tie.Need-check-content-requires
 check-content-requires c κs =
@@ -48,9 +33,6 @@ returns-2 c =
     let a = st .args in
     reads-refused _ (a .out .now) 2 BadFlags (alone-nothing (take (a .count) (bits (a .run .now))) (a .count) (length-run (a .run .now) (a .count) (st .pre .0)) _ (rf .read-framed .result) (rf .read-framed .ensures) (c .enum-told .given .1)) refl
 
-same-length : tie.Need-same-length
-same-length c = search needs
-
 returns-3 : tie.Need-returns-3
 returns-3 c =
     let cc = c .before .before in
@@ -65,13 +47,13 @@ pub read-whole-spec : {M : Type 1} → statement M
 read-whole-spec =
     tie.close
     (tie.spec
-    slice-aggregate-read-framed
-    read-framed-requires
-    enum-told
-    enum-known-found
+    (λ c. search needs)
+    (λ c κs. search needs)
+    (λ c. search needs)
+    (λ c. search needs)
     returns
-    slice-aggregate-check-content
+    (λ c. search needs)
     check-content-requires
     returns-2
-    same-length
+    (λ c. search needs)
     returns-3)

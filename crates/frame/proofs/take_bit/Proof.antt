@@ -4,26 +4,11 @@ use Rattle.frame.proofs.Taking.{takes-one, takes-zero}
 use Rattle.frame.proofs.take_bit.Statement.{statement}
 use Rattle.frame.proofs.take_bit.Tie as tie
 
-put-bits-requires : tie.Need-put-bits-requires
-put-bits-requires c κs = search needs
-
-sub-t12 : tie.Need-sub-t12
-sub-t12 c = search needs
-
-same-length : tie.Need-same-length
-same-length c = search needs
-
 returns : tie.Need-returns
 returns c =
     let t1 = c .before .before .before .before in
     let a = t1 .before .before .before .args in
     takes-one (a .plain .now) _ (a .scan) (c .before .before .put-bits .result) (a .one) (t1 .if1 .taken) (c .before .before .put-bits .ensures)
-
-put-bits-requires-2 : tie.Need-put-bits-requires-2
-put-bits-requires-2 c κs = search needs
-
-same-length-2 : tie.Need-same-length-2
-same-length-2 c = search needs
 
 returns-2 : tie.Need-returns-2
 returns-2 c =
@@ -35,10 +20,10 @@ pub take-bit-spec : {M : Type 1} → statement M
 take-bit-spec =
     tie.close
     (tie.spec
-    put-bits-requires
-    sub-t12
-    same-length
+    (λ c κs. search needs)
+    (λ c. search needs)
+    (λ c. search needs)
     returns
-    put-bits-requires-2
-    same-length-2
+    (λ c κs. search needs)
+    (λ c. search needs)
     returns-2)

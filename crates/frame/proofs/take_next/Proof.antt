@@ -11,42 +11,12 @@ use Rattle.frame.proofs.Fives.{end-some, lowest-goes}
 use Rattle.frame.proofs.take_next.Statement.{statement}
 use Rattle.frame.proofs.take_next.Tie as tie
 
-add-t15 : tie.Need-add-t15
-add-t15 c = search needs
-
 returns : tie.Need-returns
 returns c =
     let st = c .before .before .before .before .before in
     let a = st .args in
     goes-one (a .run .now) (a .count) (a .way) false (st .pre .0) (st .pre .2) (sym (st .pre .4 (c .if1 .taken))) (λ e. absurd (let z : _≡_ {A = ℕ} 0 1 = cc in omega arith))
     (takes-none (a .plain .now) (a .way .scan) _ (st .pre .5) (c .if1 .taken))
-
-sub-if2 : tie.Need-sub-if2
-sub-if2 c = search needs
-
-take-one-requires : tie.Need-take-one-requires
-take-one-requires c κs = search needs
-
-same-length : tie.Need-same-length
-same-length c = search needs
-
-returns-2 : tie.Need-returns-2
-returns-2 c = search needs
-
-octet-at-requires : tie.Need-octet-at-requires
-octet-at-requires c κs = search needs
-
-five-end-requires : tie.Need-five-end-requires
-five-end-requires c κs = search needs
-
-take-octet-requires : tie.Need-take-octet-requires
-take-octet-requires c κs = search needs
-
-add-t21 : tie.Need-add-t21
-add-t21 c = search needs
-
-same-length-2 : tie.Need-same-length-2
-same-length-2 c = search needs
 
 returns-3 : tie.Need-returns-3
 returns-3 c =
@@ -60,15 +30,6 @@ returns-3 c =
     let a = st .args in
     lowest-goes (a .run .now) (a .count) 8 (oa .octet-at .result) (st .pre .0) (omega (arith, e2 .if2 .left)) (oa .octet-at .ensures) (omega arith) (omega arith) (omega (arith, e1 .if1 .left))
     (omega (arith, fe .five-end .ensures, t3 .if3 .taken)) (to .take-octet .ensures)
-
-take-part-requires : tie.Need-take-part-requires
-take-part-requires c κs = search needs
-
-add-t16 : tie.Need-add-t16
-add-t16 c = search needs
-
-same-length-3 : tie.Need-same-length-3
-same-length-3 c = search needs
 
 returns-4 : tie.Need-returns-4
 returns-4 c =
@@ -88,19 +49,19 @@ pub take-next-spec : {M : Type 1} → statement M
 take-next-spec =
     tie.close
     (tie.spec
-    add-t15
+    (λ c. search needs)
     returns
-    sub-if2
-    take-one-requires
-    same-length
-    returns-2
-    octet-at-requires
-    five-end-requires
-    take-octet-requires
-    add-t21
-    same-length-2
+    (λ c. search needs)
+    (λ c κs. search needs)
+    (λ c. search needs)
+    (λ c. search needs)
+    (λ c κs. search needs)
+    (λ c κs. search needs)
+    (λ c κs. search needs)
+    (λ c. search needs)
+    (λ c. search needs)
     returns-3
-    take-part-requires
-    add-t16
-    same-length-3
+    (λ c κs. search needs)
+    (λ c. search needs)
+    (λ c. search needs)
     returns-4)

@@ -8,19 +8,10 @@ use Rattle.frame.proofs.Fives.{eight-most, eight-leaves, lowest-takes}
 use Rattle.frame.proofs.take_octet.Statement.{statement}
 use Rattle.frame.proofs.take_octet.Tie as tie
 
-put-bits-requires : tie.Need-put-bits-requires
-put-bits-requires c κs = search needs
-
-last-ones-requires : tie.Need-last-ones-requires
-last-ones-requires c κs = search needs
-
 sub-t9 : tie.Need-sub-t9
 sub-t9 c =
     let st = c .before .before .before .before .before .before .before in
     omega (arith, c .last-ones .ensures, eight-most (st .args .scan .left) (st .args .octet) (st .pre .0, st .pre .1) (omega arith) (st .pre .2))
-
-same-length : tie.Need-same-length
-same-length c = search needs
 
 returns : tie.Need-returns
 returns c =
@@ -33,4 +24,4 @@ returns c =
 
 pub take-octet-spec : {M : Type 1} → statement M
 take-octet-spec =
-    tie.close (tie.spec put-bits-requires last-ones-requires sub-t9 same-length returns)
+    tie.close (tie.spec (λ c κs. search needs) (λ c κs. search needs) sub-t9 (λ c. search needs) returns)

@@ -7,21 +7,6 @@ use Rattle.frame.proofs.Taking.{goes-one}
 use Rattle.frame.proofs.take_one.Statement.{statement}
 use Rattle.frame.proofs.take_one.Tie as tie
 
-bit-at-requires : tie.Need-bit-at-requires
-bit-at-requires c κs = search needs
-
-is-one-requires : tie.Need-is-one-requires
-is-one-requires c κs = search needs
-
-take-bit-requires : tie.Need-take-bit-requires
-take-bit-requires c κs = search needs
-
-add-t12 : tie.Need-add-t12
-add-t12 c = search needs
-
-same-length : tie.Need-same-length
-same-length c = search needs
-
 returns : tie.Need-returns
 returns c =
     let tb = c .before .before in
@@ -34,4 +19,4 @@ returns c =
 pub take-one-spec : {M : Type 1} → statement M
 take-one-spec =
     tie.close
-    (tie.spec bit-at-requires is-one-requires take-bit-requires add-t12 same-length returns)
+    (tie.spec (λ c κs. search needs) (λ c κs. search needs) (λ c κs. search needs) (λ c. search needs) (λ c. search needs) returns)

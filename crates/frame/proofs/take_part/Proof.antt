@@ -10,16 +10,10 @@ use Rattle.frame.proofs.Fives.{part-leaves, lowest-takes}
 use Rattle.frame.proofs.take_part.Statement.{statement}
 use Rattle.frame.proofs.take_part.Tie as tie
 
-lowest-requires : tie.Need-lowest-requires
-lowest-requires c κs = search needs
-
 put-bits-requires : tie.Need-put-bits-requires
 put-bits-requires c κs =
     let st = c .before .before .before .before in
     (rw (c .lowest .ensures) (mod-lt (st .args .octet) (pow-pos (st .args .width))), st .pre .3, st .pre .4)
-
-same-length : tie.Need-same-length
-same-length c = search needs
 
 returns : tie.Need-returns
 returns c =
@@ -34,4 +28,4 @@ returns c =
     (rw (lo .lowest .ensures, lowBits-rest w o) at (pb .put-bits .ensures))
 
 pub take-part-spec : {M : Type 1} → statement M
-take-part-spec = tie.close (tie.spec lowest-requires put-bits-requires same-length returns)
+take-part-spec = tie.close (tie.spec (λ c κs. search needs) put-bits-requires (λ c. search needs) returns)

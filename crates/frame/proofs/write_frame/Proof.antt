@@ -60,12 +60,6 @@ returns-7 c = rw (
 )
     (record { reply = refl; output = refl })
 
-put-frame-requires : tie.Need-put-frame-requires
-put-frame-requires c κs = search needs
-
-same-length : tie.Need-same-length
-same-length c = search needs
-
 returns-8 : tie.Need-returns-8
 unfolding writeFrame
 returns-8 c = let t = c .before .before .before .before in
@@ -92,6 +86,6 @@ write-frame-spec =
     returns-5
     returns-6
     returns-7
-    put-frame-requires
-    same-length
+    (λ c κs. search needs)
+    (λ c. search needs)
     returns-8)

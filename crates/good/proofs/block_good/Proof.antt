@@ -22,9 +22,6 @@ abbrev μ-loop : tie.MeasureT-loop
 loop-holds : tie.Need-loop-holds Inv-loop μ-loop
 loop-holds c = looked-none
 
-shared-slice-read-octet : tie.Need-shared-slice-read-octet Inv-loop μ-loop
-shared-slice-read-octet c = search needs
-
 rem-set : tie.Need-rem-set Inv-loop μ-loop
 rem-set c = omega (arith, pow-pos (c .before .before .before .args .w))
 
@@ -64,9 +61,6 @@ returns-4 c =
     looked-last (b .before .before .loop .inv) (b .before .before .before .pre .0) (b .before .loop-test .taken) (u .before .if1 .left) (u .if2 .taken) (o .if3 .left)
     (λ z. ⊎-elim (λ x. ltb-false _ _ (x .1 .left)) (λ x. absurd (x .left z)) (c .if4 .came))
 
-shr-allowed : tie.Need-shr-allowed Inv-loop μ-loop
-shr-allowed c = search needs
-
 add-i : tie.Need-add-i Inv-loop μ-loop
 add-i c = omega arith
 
@@ -87,7 +81,7 @@ block-good-spec =
     Inv-loop
     μ-loop
     loop-holds
-    shared-slice-read-octet
+    (λ c. search needs)
     rem-set
     cast-set
     returns
@@ -96,7 +90,7 @@ block-good-spec =
     returns-3
     add-result
     returns-4
-    shr-allowed
+    (λ c. search needs)
     add-i
     loop-less
     loop-again

@@ -5,27 +5,12 @@ use Rattle.good.proofs.Stepping.{field-bad, rest-bad, rest-on}
 use Rattle.good.proofs.field_good.Statement.{statement}
 use Rattle.good.proofs.field_good.Tie as tie
 
-npar-places-requires : tie.Need-npar-places-requires
-npar-places-requires c κs = search needs
-
-block-good-requires : tie.Need-block-good-requires
-block-good-requires c κs = search needs
-
 returns : tie.Need-returns
 returns c = let p = c .before .before in field-bad _ (p .npar-places .ensures) (c .before .block-good .ensures) (c .if1 .taken)
-
-spar-places-requires : tie.Need-spar-places-requires
-spar-places-requires c κs = search needs
-
-block-good-requires-2 : tie.Need-block-good-requires-2
-block-good-requires-2 c κs = search needs
 
 returns-2 : tie.Need-returns-2
 returns-2 c = let q = c .before .before in let f = q .before in let p = f .before .before in
     rest-bad _ (p .npar-places .ensures) (f .before .block-good .ensures) (f .if1 .left) (q .spar-places .ensures) (c .before .block-good2 .ensures) (c .if2 .taken)
-
-pars-good-requires : tie.Need-pars-good-requires
-pars-good-requires c κs = search needs
 
 returns-3 : tie.Need-returns-3
 returns-3 c = let k = c .before in let q = k .before .before in let f = q .before in let p = f .before .before in
@@ -35,11 +20,11 @@ pub field-good-spec : {M : Type 1} → statement M
 field-good-spec =
     tie.close
     (tie.spec
-    npar-places-requires
-    block-good-requires
+    (λ c κs. search needs)
+    (λ c κs. search needs)
     returns
-    spar-places-requires
-    block-good-requires-2
+    (λ c κs. search needs)
+    (λ c κs. search needs)
     returns-2
-    pars-good-requires
+    (λ c κs. search needs)
     returns-3)

@@ -5,17 +5,8 @@ use Rattle.good.proofs.Stepping.{par-bad, par-on}
 use Rattle.good.proofs.par_good.Statement.{statement}
 use Rattle.good.proofs.par_good.Tie as tie
 
-npar-places-requires : tie.Need-npar-places-requires
-npar-places-requires c κs = search needs
-
-block-good-requires : tie.Need-block-good-requires
-block-good-requires c κs = search needs
-
 returns : tie.Need-returns
 returns c = let p = c .before .before in par-bad _ _ _ (p .npar-places .ensures) (c .before .block-good .ensures) (c .if1 .taken)
-
-group-good-requires : tie.Need-group-good-requires
-group-good-requires c κs = search needs
 
 returns-2 : tie.Need-returns-2
 returns-2 c = let b = c .before .before in par-on _ _ _ (b .before .npar-places .ensures) (b .block-good .ensures) (c .before .if1 .left) (c .group-good .ensures)
@@ -23,4 +14,4 @@ returns-2 c = let b = c .before .before in par-on _ _ _ (b .before .npar-places 
 pub par-good-spec : {M : Type 1} → statement M
 par-good-spec =
     tie.close
-    (tie.spec npar-places-requires block-good-requires returns group-good-requires returns-2)
+    (tie.spec (λ c κs. search needs) (λ c κs. search needs) returns (λ c κs. search needs) returns-2)

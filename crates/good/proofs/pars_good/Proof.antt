@@ -18,9 +18,6 @@ abbrev μ-loop : tie.MeasureT-loop
 loop-holds : tie.Need-loop-holds Inv-loop μ-loop
 loop-holds c = octets-start (c .before .pre .1)
 
-shared-slice-read-octet : tie.Need-shared-slice-read-octet Inv-loop μ-loop
-shared-slice-read-octet c = search needs
-
 pars-good-of-requires : tie.Need-pars-good-of-requires Inv-loop μ-loop
 pars-good-of-requires c κs = let i = c .before .before .loop .inv in
     (omega arith, omega (arith, i .reach), i .some)
@@ -55,7 +52,7 @@ pars-good-spec =
     Inv-loop
     μ-loop
     loop-holds
-    shared-slice-read-octet
+    (λ c. search needs)
     pars-good-of-requires
     returns
     returns-2

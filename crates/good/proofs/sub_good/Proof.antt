@@ -6,17 +6,8 @@ use Rattle.good.proofs.Stepping.{sub-marked, sub-ended, sub-open}
 use Rattle.good.proofs.sub_good.Statement.{statement}
 use Rattle.good.proofs.sub_good.Tie as tie
 
-bit8-requires : tie.Need-bit8-requires
-bit8-requires c κs = search needs
-
 returns : tie.Need-returns
 returns c = let b = c .before in sub-marked _ _ _ (sym (b .bit8 .ensures) ∙ c .if1 .taken)
-
-block-good-requires : tie.Need-block-good-requires
-block-good-requires c κs = search needs
-
-bit8-requires-2 : tie.Need-bit8-requires-2
-bit8-requires-2 c κs = search needs
 
 returns-2 : tie.Need-returns-2
 returns-2 c = let g = c .before .before in let b = g .before in
@@ -29,4 +20,4 @@ returns-3 c = let g = c .before .before in let b = g .before in
 pub sub-good-spec : {M : Type 1} → statement M
 sub-good-spec =
     tie.close
-    (tie.spec bit8-requires returns block-good-requires bit8-requires-2 returns-2 returns-3)
+    (tie.spec (λ c κs. search needs) returns (λ c κs. search needs) (λ c κs. search needs) returns-2 returns-3)

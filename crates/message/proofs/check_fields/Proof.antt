@@ -7,17 +7,11 @@ use Rattle.message.proofs.Checking.{first-broken, first-fits, second-br
 use Rattle.message.proofs.check_fields.Statement.{statement}
 use Rattle.message.proofs.check_fields.Tie as tie
 
-field-end-requires : tie.Need-field-end-requires
-field-end-requires c κs = search needs
-
 returns : tie.Need-returns
 returns c =
     let f = c .before in
     let s = f .before .before in
     first-broken (s .args .s .now) (s .pre) (f .field-end .ensures) (c .if1 .taken)
-
-field-end-requires-2 : tie.Need-field-end-requires-2
-field-end-requires-2 c κs = search needs
 
 returns-2 : tie.Need-returns-2
 returns-2 c =
@@ -31,9 +25,6 @@ tail-form-requires c κs =
     let s = e .before .before .before in
     first-fits (s .args .s .now) (s .pre) (e .before .field-end .ensures) (e .if1 .left)
 
-is-fine-requires : tie.Need-is-fine-requires
-is-fine-requires c κs = search needs
-
 returns-3 : tie.Need-returns-3
 returns-3 c =
     let g = c .before .before .before in
@@ -41,9 +32,6 @@ returns-3 c =
     let s = e .before .before .before in
     tail-broken (s .args .s .now) (s .pre) (e .before .field-end .ensures) (e .if1 .left) (g .before .field-end2 .ensures) (g .if2 .left) (c .before .before .tail-form .ensures)
     (sym (c .before .is-fine .ensures) ∙ not-true _ (c .if3 .taken))
-
-shared-slice-read-t8 : tie.Need-shared-slice-read-t8
-shared-slice-read-t8 c = search needs
 
 returns-4 : tie.Need-returns-4
 returns-4 c =
@@ -58,12 +46,12 @@ pub check-fields-spec : {M : Type 1} → statement M
 check-fields-spec =
     tie.close
     (tie.spec
-    field-end-requires
+    (λ c κs. search needs)
     returns
-    field-end-requires-2
+    (λ c κs. search needs)
     returns-2
     tail-form-requires
-    is-fine-requires
+    (λ c κs. search needs)
     returns-3
-    shared-slice-read-t8
+    (λ c. search needs)
     returns-4)

@@ -25,20 +25,11 @@ form-decides c = let e = c .before .before .before in by-form _ listRoom (omega 
 bare : (c : tie.Else4) → hasFields (typeOf (c .before .before .before .before .before .before .before .before .args .s .now)) ≡ false
 bare c = sym (c .before .has-fields .ensures) ∙ c .if4 .left
 
-has-fields-requires : tie.Need-has-fields-requires
-has-fields-requires c κs = search needs
-
 returns : tie.Need-returns
 returns c = refusal-found _ 2 BadSize (no-octet _ listRoom (omega arith) (c .if1 .taken)) refl
 
 returns-2 : tie.Need-returns-2
 returns-2 c = refusal-found _ 2 BadSize (too-long _ listRoom (omega arith) (c .before .if1 .left) (c .if2 .taken)) refl
-
-shared-slice-read-kind : tie.Need-shared-slice-read-kind
-shared-slice-read-kind c = search needs
-
-is-known-requires : tie.Need-is-known-requires
-is-known-requires c κs = search needs
 
 returns-3 : tie.Need-returns-3
 returns-3 c =
@@ -49,9 +40,6 @@ returns-3 c =
 
 check-fields-requires : tie.Need-check-fields-requires
 check-fields-requires c κs = let f = c .before in (omega arith, omega arith, is-known (f .before), sym (f .has-fields .ensures) ∙ c .if4 .taken)
-
-returns-4 : tie.Need-returns-4
-returns-4 c = search needs
 
 returns-5 : tie.Need-returns-5
 returns-5 c =
@@ -68,11 +56,11 @@ check-message-spec =
     (tie.spec
     returns
     returns-2
-    shared-slice-read-kind
-    is-known-requires
+    (λ c. search needs)
+    (λ c κs. search needs)
     returns-3
-    has-fields-requires
+    (λ c κs. search needs)
     check-fields-requires
-    returns-4
+    (λ c. search needs)
     returns-5
     returns-6)

@@ -6,12 +6,6 @@ use borrow.Author.Tests.{eq-eqb, ne-eqb}
 use Rattle.message.proofs.ns_span.Statement.{statement}
 use Rattle.message.proofs.ns_span.Tie as tie
 
-shared-slice-read-if1 : tie.Need-shared-slice-read-if1
-shared-slice-read-if1 c = search needs
-
-sub-t9 : tie.Need-sub-t9
-sub-t9 c = search needs
-
 returns : tie.Need-returns
 returns c = simp (eq-eqb _ _ (c .if1 .taken)) (refl, refl)
 
@@ -19,4 +13,4 @@ returns-2 : tie.Need-returns-2
 returns-2 c = simp (ne-eqb _ _ (c .if1 .left)) (refl, refl)
 
 pub ns-span-spec : {M : Type 1} → statement M
-ns-span-spec = tie.close (tie.spec shared-slice-read-if1 sub-t9 returns returns-2)
+ns-span-spec = tie.close (tie.spec (λ c. search needs) (λ c. search needs) returns returns-2)

@@ -12,31 +12,10 @@ use Rattle.message.proofs.read_both.Tie as tie
 returns : tie.Need-returns
 returns c = refuses _ _ _ _ 1 BadLent (no-room _ _ (c .if1 .taken)) refl
 
-check-message-requires : tie.Need-check-message-requires
-check-message-requires c κs = search needs
-
-enum-known-parts : tie.Need-enum-known-parts
-enum-known-parts c = search needs
-
 read-parts-requires : tie.Need-read-parts-requires
 read-parts-requires c κs =
     let p = c .before .before .before in
     rw (p .parts .given .1) at (p .before .before .check-message .ensures)
-
-enum-told : tie.Need-enum-told
-enum-told c = search needs
-
-enum-told-2 : tie.Need-enum-told-2
-enum-told-2 c = search needs
-
-enum-told-3 : tie.Need-enum-told-3
-enum-told-3 c = search needs
-
-same-length : tie.Need-same-length
-same-length c = search needs
-
-same-length-2 : tie.Need-same-length-2
-same-length-2 c = search needs
 
 returns-2 : tie.Need-returns-2
 returns-2 c =
@@ -63,14 +42,14 @@ read-both-spec =
     tie.close
     (tie.spec
     returns
-    check-message-requires
-    enum-known-parts
+    (λ c κs. search needs)
+    (λ c. search needs)
     read-parts-requires
-    enum-told
-    enum-told-2
-    enum-told-3
-    same-length
-    same-length-2
+    (λ c. search needs)
+    (λ c. search needs)
+    (λ c. search needs)
+    (λ c. search needs)
+    (λ c. search needs)
     returns-2
     returns-3
     returns-4

@@ -17,26 +17,14 @@ fields c = sym (c .before .has-fields .ensures) ∙ not-false _ (c .if1 .left)
 shared-slice-read-revision : tie.Need-shared-slice-read-revision
 shared-slice-read-revision c = some-octet _ _ (c .before .before .before .before .pre)
 
-has-fields-requires : tie.Need-has-fields-requires
-has-fields-requires c κs = search needs
-
 returns : tie.Need-returns
 returns c = read-one _ _ (c .before .before .before .before .before .before .pre) _ _ (sym (c .before .has-fields .ensures) ∙ not-true _ (c .if1 .taken))
-
-fill-fields-requires : tie.Need-fill-fields-requires
-fill-fields-requires c κs = search needs
 
 ns-span-requires : tie.Need-ns-span-requires
 ns-span-requires c κs =
     let e = c .before .before .before .before .before .before .before in
     let a = e .before .before .before .before .before .before in
     tail-fits _ _ (a .pre) (a .args .list .now) (a .args .octets .now) (fields e)
-
-same-length : tie.Need-same-length
-same-length c = search needs
-
-same-length-2 : tie.Need-same-length-2
-same-length-2 c = search needs
 
 returns-2 : tie.Need-returns-2
 returns-2 c =
@@ -49,10 +37,10 @@ read-parts-spec =
     tie.close
     (tie.spec
     shared-slice-read-revision
-    has-fields-requires
+    (λ c κs. search needs)
     returns
-    fill-fields-requires
+    (λ c κs. search needs)
     ns-span-requires
-    same-length
-    same-length-2
+    (λ c. search needs)
+    (λ c. search needs)
     returns-2)

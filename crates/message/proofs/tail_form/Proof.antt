@@ -6,12 +6,6 @@ use Rattle.message.specs.Nonstandard.{tailForm}
 use Rattle.message.proofs.tail_form.Statement.{statement}
 use Rattle.message.proofs.tail_form.Tie as tie
 
-shared-slice-read-if1 : tie.Need-shared-slice-read-if1
-shared-slice-read-if1 c = search needs
-
-ns-form-requires : tie.Need-ns-form-requires
-ns-form-requires c κs = search needs
-
 returns : tie.Need-returns
 unfolding tailForm
 returns c = simp (eq-eqb _ _ (c .before .if1 .taken)) (c .ns-form .ensures)
@@ -26,4 +20,4 @@ returns-3 c = simp (ne-eqb _ _ (c .before .if1 .left), ne-eqb _ _ (c .if2 .left)
 
 pub tail-form-spec : {M : Type 1} → statement M
 tail-form-spec =
-    tie.close (tie.spec shared-slice-read-if1 ns-form-requires returns returns-2 returns-3)
+    tie.close (tie.spec (λ c. search needs) (λ c κs. search needs) returns returns-2 returns-3)

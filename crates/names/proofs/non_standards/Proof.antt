@@ -29,9 +29,6 @@ returns-2 : tie.Need-returns-2
 unfolding maskOf printedUnder
 returns-2 c = mask-at isNonStandard nparBlocks (c .before .before .args .under) (codeOf 1 0 0 0) _ (omega arith) refl
 
-add-if3 : tie.Need-add-if3
-add-if3 c = search needs
-
 returns-3 : tie.Need-returns-3
 unfolding maskOf printedUnder
 returns-3 c = mask-at isNonStandard nparBlocks (c .before .before .before .args .under) (codeOf 1 1 0 0) _ (omega arith) refl
@@ -87,7 +84,7 @@ non-standards-spec =
     (tie.spec
     returns
     returns-2
-    add-if3
+    (λ c. search needs)
     returns-3
     returns-4
     returns-5

@@ -16,15 +16,9 @@ use Rattle.names.proofs.Blocks.{every, mask-at, mask-zero, mask-low}
 use Rattle.names.proofs.npar_names.Statement.{statement}
 use Rattle.names.proofs.npar_names.Tie as tie
 
-add-if2 : tie.Need-add-if2
-add-if2 c = search needs
-
 returns : tie.Need-returns
 unfolding maskOf printedUnder
 returns c = mask-at isNamed nparBlocks (c .before .before .args .under) (codeOf 2 3 1 0) _ (omega arith) refl
-
-add-if3 : tie.Need-add-if3
-add-if3 c = search needs
 
 returns-2 : tie.Need-returns-2
 unfolding maskOf printedUnder
@@ -46,18 +40,12 @@ returns-5 : tie.Need-returns-5
 unfolding maskOf printedUnder
 returns-5 c = mask-at isNamed nparBlocks (c .before .before .before .args .under) (codeOf 1 0 0 0) _ (omega arith) refl
 
-add-if6 : tie.Need-add-if6
-add-if6 c = search needs
-
 returns-6 : tie.Need-returns-6
 unfolding maskOf printedUnder
 returns-6 c = mask-at isNamed nparBlocks (c .before .before .before .before .args .under) (codeOf 1 1 0 0) _ (omega arith) refl
 
 returns-7 : tie.Need-returns-7
 returns-7 c = mask-low isNamed (c .before .before .before .before .before .args .under) (c .before .before .if5 .left) (c .before .if6 .left) (c .if7 .taken)
-
-standard-names-requires : tie.Need-standard-names-requires
-standard-names-requires c κs = search needs
 
 returns-8 : tie.Need-returns-8
 returns-8 c =
@@ -68,15 +56,15 @@ pub npar-names-spec : {M : Type 1} → statement M
 npar-names-spec =
     tie.close
     (tie.spec
-    add-if2
+    (λ c. search needs)
     returns
-    add-if3
+    (λ c. search needs)
     returns-2
     returns-3
     returns-4
     returns-5
-    add-if6
+    (λ c. search needs)
     returns-6
     returns-7
-    standard-names-requires
+    (λ c κs. search needs)
     returns-8)

@@ -9,24 +9,6 @@ use Rattle.names.proofs.Printings.{mask-named, mask-standard}
 use Rattle.names.proofs.npar_places.Statement.{statement}
 use Rattle.names.proofs.npar_places.Tie as tie
 
-enum-told : tie.Need-enum-told
-enum-told c = search needs
-
-enum-told-2 : tie.Need-enum-told-2
-enum-told-2 c = search needs
-
-npar-names-requires : tie.Need-npar-names-requires
-npar-names-requires c κs = search needs
-
-enum-told-3 : tie.Need-enum-told-3
-enum-told-3 c = search needs
-
-npar-names-requires-2 : tie.Need-npar-names-requires-2
-npar-names-requires-2 c κs = search needs
-
-non-standards-requires : tie.Need-non-standards-requires
-non-standards-requires c κs = search needs
-
 sub-t7 : tie.Need-sub-t7
 sub-t7 c = omega (arith, c .before .npar-names2 .ensures, c .non-standards .ensures, mask-named (printedUnder (c .before .before .before .before .args .under) nparBlocks))
 
@@ -46,12 +28,12 @@ pub npar-places-spec : {M : Type 1} → statement M
 npar-places-spec =
     tie.close
     (tie.spec
-    enum-told
-    enum-told-2
-    npar-names-requires
-    enum-told-3
-    npar-names-requires-2
-    non-standards-requires
+    (λ c. search needs)
+    (λ c. search needs)
+    (λ c κs. search needs)
+    (λ c. search needs)
+    (λ c κs. search needs)
+    (λ c κs. search needs)
     sub-t7
     returns
     returns-2

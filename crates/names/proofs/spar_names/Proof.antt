@@ -23,21 +23,9 @@ returns-2 : tie.Need-returns-2
 unfolding maskOf printedUnder
 returns-2 c = mask-at isNamed sparBlocks (c .before .before .args .under) (codeOf 2 0 0 0) _ (omega arith) refl
 
-mul-if3 : tie.Need-mul-if3
-mul-if3 c = search needs
-
-add-if3 : tie.Need-add-if3
-add-if3 c = search needs
-
 returns-3 : tie.Need-returns-3
 unfolding maskOf printedUnder
 returns-3 c = mask-at isNamed sparBlocks (c .before .before .before .args .under) (codeOf 2 3 0 0) _ (omega arith) refl
-
-mul-if4 : tie.Need-mul-if4
-mul-if4 c = search needs
-
-add-if4 : tie.Need-add-if4
-add-if4 c = search needs
 
 returns-4 : tie.Need-returns-4
 unfolding maskOf printedUnder
@@ -57,10 +45,10 @@ spar-names-spec =
     (tie.spec
     returns
     returns-2
-    mul-if3
-    add-if3
+    (λ c. search needs)
+    (λ c. search needs)
     returns-3
-    mul-if4
-    add-if4
+    (λ c. search needs)
+    (λ c. search needs)
     returns-4
     returns-5)

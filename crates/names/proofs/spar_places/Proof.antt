@@ -6,21 +6,6 @@ use Rattle.names.proofs.Printings.{spar-standard}
 use Rattle.names.proofs.spar_places.Statement.{statement}
 use Rattle.names.proofs.spar_places.Tie as tie
 
-enum-told : tie.Need-enum-told
-enum-told c = search needs
-
-enum-told-2 : tie.Need-enum-told-2
-enum-told-2 c = search needs
-
-spar-names-requires : tie.Need-spar-names-requires
-spar-names-requires c κs = search needs
-
-enum-told-3 : tie.Need-enum-told-3
-enum-told-3 c = search needs
-
-spar-names-requires-2 : tie.Need-spar-names-requires-2
-spar-names-requires-2 c κs = search needs
-
 returns : tie.Need-returns
 unfolding sparPlaces
 returns c = rw (c .enum-told .given .1)
@@ -37,11 +22,11 @@ pub spar-places-spec : {M : Type 1} → statement M
 spar-places-spec =
     tie.close
     (tie.spec
-    enum-told
-    enum-told-2
-    spar-names-requires
-    enum-told-3
-    spar-names-requires-2
+    (λ c. search needs)
+    (λ c. search needs)
+    (λ c κs. search needs)
+    (λ c. search needs)
+    (λ c κs. search needs)
     returns
     returns-2
     returns-3)

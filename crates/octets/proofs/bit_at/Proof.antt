@@ -8,15 +8,6 @@ use Rattle.octets.proofs.Laws.{bit-in, bit-end}
 use Rattle.octets.proofs.bit_at.Statement.{statement}
 use Rattle.octets.proofs.bit_at.Tie as tie
 
-shared-slice-read-if2 : tie.Need-shared-slice-read-if2
-shared-slice-read-if2 c = search needs
-
-cast-if2 : tie.Need-cast-if2
-cast-if2 c = search needs
-
-shr-if2 : tie.Need-shr-if2
-shr-if2 c = search needs
-
 returns : tie.Need-returns
 returns c =
     let a = c .before .before .before .args in
@@ -31,4 +22,4 @@ returns-3 : tie.Need-returns-3
 returns-3 c = sym (bit-end (c .before .args .run .now) (c .before .args .at) (c .if1 .left))
 
 pub bit-at-spec : {M : Type 1} → statement M
-bit-at-spec = tie.close (tie.spec shared-slice-read-if2 cast-if2 shr-if2 returns returns-2 returns-3)
+bit-at-spec = tie.close (tie.spec (λ c. search needs) (λ c. search needs) (λ c. search needs) returns returns-2 returns-3)

@@ -16,12 +16,6 @@ Inv-loop from count to₀ n j₀ to j = (j ≤ n) × (length to ≡ length to₀
 abbrev μ-loop : tie.MeasureT-loop
 μ-loop from count to₀ n j₀ to j = n - j
 
-least-requires : tie.Need-least-requires Inv-loop μ-loop
-least-requires c κs = search needs
-
-least-requires-2 : tie.Need-least-requires-2 Inv-loop μ-loop
-least-requires-2 c κs = search needs
-
 loop-holds : tie.Need-loop-holds Inv-loop μ-loop
 unfolding over
 loop-holds c = (omega arith, refl, refl)
@@ -59,8 +53,8 @@ copy-front-spec =
     (tie.spec
     Inv-loop
     μ-loop
-    least-requires
-    least-requires-2
+    (λ c κs. search needs)
+    (λ c κs. search needs)
     loop-holds
     shared-slice-read-to
     slice-write-to

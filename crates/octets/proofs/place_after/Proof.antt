@@ -6,9 +6,6 @@ use Rattle.octets.proofs.Laws.{after-in, after-end, after-last}
 use Rattle.octets.proofs.place_after.Statement.{statement}
 use Rattle.octets.proofs.place_after.Tie as tie
 
-add-result : tie.Need-add-result
-add-result c = search needs
-
 returns : tie.Need-returns
 returns c =
     let a = c .before .before .args in
@@ -21,4 +18,4 @@ returns-3 : tie.Need-returns-3
 returns-3 c = sym (after-last (c .before .args .run .now) (c .before .args .at) (c .if1 .left))
 
 pub place-after-spec : {M : Type 1} → statement M
-place-after-spec = tie.close (tie.spec add-result returns returns-2 returns-3)
+place-after-spec = tie.close (tie.spec (λ c. search needs) returns returns-2 returns-3)

@@ -7,24 +7,9 @@ use Rattle.station.proofs.Saying.{did-bare}
 use Rattle.station.proofs.step.Statement.{statement}
 use Rattle.station.proofs.step.Tie as tie
 
-is-reset-requires : tie.Need-is-reset-requires
-is-reset-requires c κs = search needs
-
-silent-requires : tie.Need-silent-requires
-silent-requires c κs = search needs
-
 returns : tie.Need-returns
 unfolding stepOf
 returns c = rw (sym (c .before .before .is-reset .ensures) ∙ c .before .if1 .taken) (did-bare _ _ _ _ _ (c .silent .ensures))
-
-checked-step-requires : tie.Need-checked-step-requires
-checked-step-requires c κs = search needs
-
-same-length : tie.Need-same-length
-same-length c = search needs
-
-same-length-2 : tie.Need-same-length-2
-same-length-2 c = search needs
 
 returns-2 : tie.Need-returns-2
 unfolding stepOf
@@ -37,10 +22,10 @@ pub step-spec : {M : Type 1} → statement M
 step-spec =
     tie.close
     (tie.spec
-    is-reset-requires
-    silent-requires
+    (λ c κs. search needs)
+    (λ c κs. search needs)
     returns
-    checked-step-requires
-    same-length
-    same-length-2
+    (λ c κs. search needs)
+    (λ c. search needs)
+    (λ c. search needs)
     returns-2)

@@ -41,12 +41,6 @@ counted c =
     (λ t. counts-none _ _ (l .loop .count) _ (l .loop .i + 1 - a .e) k (t .0 .left) (t .1))
     (c .if1 .came)
 
-names-step-requires : tie.Need-names-step-requires Inv-loop μ-loop
-names-step-requires c κs = search needs
-
-first-names-requires : tie.Need-first-names-requires Inv-loop μ-loop
-first-names-requires c κs = search needs
-
 loop-holds : tie.Need-loop-holds Inv-loop μ-loop
 loop-holds c = let b = c .before .before .before in λ places h k. reaching-none (framed b) places (b .args .e) (c .first-names .result) h
 
@@ -89,8 +83,8 @@ block-extent-spec =
     (tie.spec
     Inv-loop
     μ-loop
-    names-step-requires
-    first-names-requires
+    (λ c κs. search needs)
+    (λ c κs. search needs)
     loop-holds
     shared-slice-read-octet
     add-i

@@ -5,17 +5,8 @@ use borrow.Author.Needs.{needs}
 use Rattle.strike.proofs.is_kept.Statement.{statement}
 use Rattle.strike.proofs.is_kept.Tie as tie
 
-returns : tie.Need-returns
-returns c = search needs
-
-sub-names-above : tie.Need-sub-names-above
-sub-names-above c = search needs
-
-names-above-requires : tie.Need-names-above-requires
-names-above-requires c κs = search needs
-
 returns-2 : tie.Need-returns-2
 returns-2 c = place-named (c .before .before .args .places) (c .before .before .args .q) (c .names-above .result) (c .before .if1 .left) (c .names-above .ensures)
 
 pub is-kept-spec : {M : Type 1} → statement M
-is-kept-spec = tie.close (tie.spec returns sub-names-above names-above-requires returns-2)
+is-kept-spec = tie.close (tie.spec (λ c. search needs) (λ c. search needs) (λ c κs. search needs) returns-2)

@@ -12,19 +12,10 @@ use Rattle.strike.proofs.keeps_none.Tie as tie
 framed : (c : tie.Start) → Framed (c .args .w) (c .args .m) (c .args .s .now)
 framed c = record { mark = c .pre .0; wide = c .pre .1; narrow = c .pre .2; short = c .pre .3 }
 
-block-extent-requires : tie.Need-block-extent-requires
-block-extent-requires c κs = search needs
-
 returns : tie.Need-returns
 returns c =
     let a = c .before .before .before .before in
     keeps-more (framed a) (a .args .places) (a .args .e) (omega (arith, c .before .before .block-extent .ensures .0))
-
-first-names-requires : tie.Need-first-names-requires
-first-names-requires c κs = search needs
-
-octet-or-zero-requires : tie.Need-octet-or-zero-requires
-octet-or-zero-requires c κs = search needs
 
 kept-bits-requires : tie.Need-kept-bits-requires
 kept-bits-requires c κs = let a = c .before .before .before .before .before .before in omega (arith, a .pre .0, pow-pos (a .args .w))
@@ -40,4 +31,4 @@ returns-2 c =
 pub keeps-none-spec : {M : Type 1} → statement M
 keeps-none-spec =
     tie.close
-    (tie.spec block-extent-requires returns first-names-requires octet-or-zero-requires kept-bits-requires returns-2)
+    (tie.spec (λ c κs. search needs) returns (λ c κs. search needs) (λ c κs. search needs) kept-bits-requires returns-2)

@@ -9,11 +9,5 @@ use Rattle.strike.proofs.names_above.Tie as tie
 returns : tie.Need-returns
 returns c = names-end (c .before .args .bits) (c .before .args .above) (omega arith) (c .if1 .taken)
 
-shr-result : tie.Need-shr-result
-shr-result c = search needs
-
-returns-2 : tie.Need-returns-2
-returns-2 c = search needs
-
 pub names-above-spec : {M : Type 1} → statement M
-names-above-spec = tie.close (tie.spec returns shr-result returns-2)
+names-above-spec = tie.close (tie.spec returns (λ c. search needs) (λ c. search needs))

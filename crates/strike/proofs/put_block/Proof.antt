@@ -53,12 +53,6 @@ sub-last c =
     let b = c .before .before .before .before in
     omega (arith, kept-few (framed b) (b .args .places) (b .args .spot .from) .0, c .before .block-extent .ensures .0)
 
-names-step-requires : tie.Need-names-step-requires Inv-loop μ-loop
-names-step-requires c κs = search needs
-
-first-names-requires : tie.Need-first-names-requires Inv-loop μ-loop
-first-names-requires c κs = search needs
-
 loop-holds : tie.Need-loop-holds Inv-loop μ-loop
 loop-holds c =
     let b = c .before .before .before .before .before .before in
@@ -66,9 +60,6 @@ loop-holds c =
 
 add-octet-or-zero : tie.Need-add-octet-or-zero Inv-loop μ-loop
 add-octet-or-zero c = omega (arith, low (c .before))
-
-octet-or-zero-requires : tie.Need-octet-or-zero-requires Inv-loop μ-loop
-octet-or-zero-requires c κs = search needs
 
 kept-bits-requires : tie.Need-kept-bits-requires Inv-loop μ-loop
 kept-bits-requires c κs = let b = begun (c .before .before) in omega (arith, b .pre .0, pow-pos (b .args .w))
@@ -97,9 +88,6 @@ loop-again c =
 
 add-octet-or-zero-2 : tie.Need-add-octet-or-zero-2 Inv-loop μ-loop
 add-octet-or-zero-2 c = omega (arith, low (c .before), at-last c)
-
-octet-or-zero-requires-2 : tie.Need-octet-or-zero-requires-2 Inv-loop μ-loop
-octet-or-zero-requires-2 c κs = search needs
 
 kept-bits-requires-2 : tie.Need-kept-bits-requires-2 Inv-loop μ-loop
 kept-bits-requires-2 c κs = let b = begun (c .before .before) in omega (arith, b .pre .0, pow-pos (b .args .w))
@@ -148,11 +136,11 @@ put-block-spec =
     μ-loop
     block-extent-requires
     sub-last
-    names-step-requires
-    first-names-requires
+    (λ c κs. search needs)
+    (λ c κs. search needs)
     loop-holds
     add-octet-or-zero
-    octet-or-zero-requires
+    (λ c κs. search needs)
     kept-bits-requires
     add-out
     slice-write-out
@@ -161,7 +149,7 @@ put-block-spec =
     loop-less
     loop-again
     add-octet-or-zero-2
-    octet-or-zero-requires-2
+    (λ c κs. search needs)
     kept-bits-requires-2
     add-out-2
     add-out-3

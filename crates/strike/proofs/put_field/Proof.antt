@@ -10,12 +10,6 @@ use Rattle.strike.proofs.Going.{behind-within, field-room-one, field-ro
 use Rattle.strike.proofs.put_field.Statement.{statement}
 use Rattle.strike.proofs.put_field.Tie as tie
 
-base-of-requires : tie.Need-base-of-requires
-base-of-requires c κs = search needs
-
-npar-places-requires : tie.Need-npar-places-requires
-npar-places-requires c κs = search needs
-
 put-block-requires : tie.Need-put-block-requires
 put-block-requires c κs = let n = c .before in let b = n .before in let s = b .before .before .before in let a = s .args in (
   refl,
@@ -25,9 +19,6 @@ put-block-requires c κs = let n = c .before in let b = n .before in let s = b .
   s .pre .1,
   field-room-one (a .keep) (b .base-of .result) (a .s .now) (a .at) (n .npar-places .ensures) (a .out .now) (a .to) (rw (← (b .base-of .ensures)) at (s .pre .2)),
 )
-
-spar-places-requires : tie.Need-spar-places-requires
-spar-places-requires c κs = search needs
 
 put-block-requires-2 : tie.Need-put-block-requires-2
 put-block-requires-2 c κs = let p = c .before in let x = p .before .before .before in let n = x .before .before in let b = n .before in let s = b .before .before .before in let a = s .args in (
@@ -49,9 +40,6 @@ put-pars-requires c κs = let y = c .before .before .before in let p = y .before
       field-room-three (a .keep) (b .base-of .result) (a .s .now) (a .at) (n .npar-places .ensures) (a .out .now) (a .to) (rw (← (b .base-of .ensures)) at (s .pre .2)) (x .put-block .ensures) (p .spar-places .ensures) (y .put-block2 .ensures),
     )
 
-same-length : tie.Need-same-length
-same-length c = search needs
-
 returns : tie.Need-returns
 returns c = let z = c .before .before in let y = z .before .before .before .before in let p = y .before .before in let x = p .before .before .before in let n = x .before .before in let b = n .before in let s = b .before .before .before in let a = s .args in
     rw (← (b .base-of .ensures)) (field-puts (a .keep) (b .base-of .result) (a .s .now) (a .at) (n .npar-places .ensures) (a .out .now) (a .to) (rw (← (b .base-of .ensures)) at (s .pre .2)) (x .put-block .ensures) (p .spar-places .ensures)
@@ -61,11 +49,11 @@ pub put-field-spec : {M : Type 1} → statement M
 put-field-spec =
     tie.close
     (tie.spec
-    base-of-requires
-    npar-places-requires
+    (λ c κs. search needs)
+    (λ c κs. search needs)
     put-block-requires
-    spar-places-requires
+    (λ c κs. search needs)
     put-block-requires-2
     put-pars-requires
-    same-length
+    (λ c. search needs)
     returns)

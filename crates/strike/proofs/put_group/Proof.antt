@@ -7,22 +7,10 @@ use Rattle.strike.proofs.Going.{puts-none, behind-within, group-ended, 
 use Rattle.strike.proofs.put_group.Statement.{statement}
 use Rattle.strike.proofs.put_group.Tie as tie
 
-bit8-requires : tie.Need-bit8-requires
-bit8-requires c κs = search needs
-
 returns : tie.Need-returns
 returns c = let b = c .before in let a = b .before .before .before .args in
     let g = group-ended (a .keep) (a .c) (a .s .now) (a .spot .from) (sym (b .bit8 .ensures) ∙ c .if1 .taken) in
     rw (g .0) (puts-none (sym (g .1)) (a .out .now) (a .spot .to))
-
-spar-places-requires : tie.Need-spar-places-requires
-spar-places-requires c κs = search needs
-
-keeps-none-requires : tie.Need-keeps-none-requires
-keeps-none-requires c κs = search needs
-
-group-behind-requires : tie.Need-group-behind-requires
-group-behind-requires c κs = search needs
 
 returns-2 : tie.Need-returns-2
 returns-2 c = let n = c .before .before in let p = n .before in let b = p .before .before in let s = b .before .before .before in let a = s .args in
@@ -50,9 +38,6 @@ put-subs-requires c κs = let x = c .before .before .before in let e = x .before
       (sym (b .bit8 .ensures) ∙ p .before .if1 .left) (sym (n .keeps-none .ensures) ∙ e .if2 .left) (a .out .now) (a .spot .to) (s .pre .3) (x .put-block .ensures),
 )
 
-same-length : tie.Need-same-length
-same-length c = search needs
-
 returns-3 : tie.Need-returns-3
 returns-3 c = let y = c .before .before in let x = y .before .before .before .before in let e = x .before .before in let n = e .before in let p = n .before in let b = p .before .before in let s = b .before .before .before in let a = s .args in
     group-puts (a .keep) (a .c) (a .s .now) (a .spot .from) (p .spar-places .ensures) (sym (b .bit8 .ensures) ∙ p .before .if1 .left) (sym (n .keeps-none .ensures) ∙ e .if2 .left)
@@ -62,13 +47,13 @@ pub put-group-spec : {M : Type 1} → statement M
 put-group-spec =
     tie.close
     (tie.spec
-    bit8-requires
+    (λ c κs. search needs)
     returns
-    spar-places-requires
-    keeps-none-requires
-    group-behind-requires
+    (λ c κs. search needs)
+    (λ c κs. search needs)
+    (λ c κs. search needs)
     returns-2
     put-block-requires
     put-subs-requires
-    same-length
+    (λ c. search needs)
     returns-3)

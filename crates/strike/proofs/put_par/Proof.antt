@@ -8,31 +8,13 @@ use Rattle.strike.proofs.Going.{puts-none, par-kept, par-passed}
 use Rattle.strike.proofs.put_par.Statement.{statement}
 use Rattle.strike.proofs.put_par.Tie as tie
 
-is-kept-requires : tie.Need-is-kept-requires
-is-kept-requires c κs = search needs
-
-mul-put-whole : tie.Need-mul-put-whole
-mul-put-whole c = search needs
-
-add-put-whole : tie.Need-add-put-whole
-add-put-whole c = search needs
-
 put-whole-requires : tie.Need-put-whole-requires
 put-whole-requires c κs = let t = c .before .before in let k = t .before in let s = k .before .before .before in let a = s .args in
     (s .pre .0, s .pre .1, omega arith, rw (par-kept (a .branch .keep) (a .branch .base) (a .branch .places) (a .q) (a .s .now) (a .spot .from) (sym (k .is-kept .ensures) ∙ t .if1 .taken)) at (s .pre .5))
 
-same-length : tie.Need-same-length
-same-length c = search needs
-
 returns : tie.Need-returns
 returns c = let w = c .before .before in let t = w .before .before .before in let k = t .before in let a = k .before .before .before .args in
     rw (par-kept (a .branch .keep) (a .branch .base) (a .branch .places) (a .q) (a .s .now) (a .spot .from) (sym (k .is-kept .ensures) ∙ t .if1 .taken)) (w .put-whole .ensures)
-
-block-behind-requires : tie.Need-block-behind-requires
-block-behind-requires c κs = search needs
-
-group-behind-requires : tie.Need-group-behind-requires
-group-behind-requires c κs = search needs
 
 returns-2 : tie.Need-returns-2
 returns-2 c = let b = c .before in let k = b .before .before in let s = k .before .before .before in let a = s .args in
@@ -43,12 +25,12 @@ pub put-par-spec : {M : Type 1} → statement M
 put-par-spec =
     tie.close
     (tie.spec
-    is-kept-requires
-    mul-put-whole
-    add-put-whole
+    (λ c κs. search needs)
+    (λ c. search needs)
+    (λ c. search needs)
     put-whole-requires
-    same-length
+    (λ c. search needs)
     returns
-    block-behind-requires
-    group-behind-requires
+    (λ c κs. search needs)
+    (λ c κs. search needs)
     returns-2)

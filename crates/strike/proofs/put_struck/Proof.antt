@@ -12,12 +12,6 @@ shared-slice-read-out c =
     let b = c .before .before in
     some-octet (known-of (b .before .args .out .now) (b .before .pre) (λ i. omega (arith, b .shared-slice-known .given i)) refl)
 
-slice-write-out : tie.Need-slice-write-out
-slice-write-out c = search needs
-
-same-length : tie.Need-same-length
-same-length c = search needs
-
 returns : tie.Need-returns
 returns c =
     let b = c .before .before .before in
@@ -27,9 +21,6 @@ put-field-requires : tie.Need-put-field-requires
 put-field-requires c κs =
     let b = c .before .before .before .before in
     first-room (known-of (b .before .args .out .now) (b .before .pre) (λ i. omega (arith, b .shared-slice-known .given i)) refl) (c .before .if1 .left)
-
-standard-keep-requires : tie.Need-standard-keep-requires
-standard-keep-requires c κs = search needs
 
 put-field-requires-2 : tie.Need-put-field-requires-2
 put-field-requires-2 c κs =
@@ -66,11 +57,11 @@ put-struck-spec =
     tie.close
     (tie.spec
     shared-slice-read-out
-    slice-write-out
-    same-length
+    (λ c. search needs)
+    (λ c. search needs)
     returns
     put-field-requires
-    standard-keep-requires
+    (λ c κs. search needs)
     put-field-requires-2
     put-rest-requires
     same-length-2

@@ -7,32 +7,14 @@ use Rattle.strike.proofs.Going.{puts-none, sub-kept, sub-passed}
 use Rattle.strike.proofs.put_sub.Statement.{statement}
 use Rattle.strike.proofs.put_sub.Tie as tie
 
-is-kept-requires : tie.Need-is-kept-requires
-is-kept-requires c κs = search needs
-
-mul-npar-places : tie.Need-mul-npar-places
-mul-npar-places c = search needs
-
-add-npar-places : tie.Need-add-npar-places
-add-npar-places c = search needs
-
-npar-places-requires : tie.Need-npar-places-requires
-npar-places-requires c κs = search needs
-
 put-block-requires : tie.Need-put-block-requires
 put-block-requires c κs = let n = c .before in let k = n .before .before .before in let s = k .before .before .before in let a = s .args in
     let e = sub-kept (a .branch .keep) (a .branch .base) (a .branch .places) (a .t) (a .s .now) (a .spot .from) (n .npar-places .ensures) (sym (k .is-kept .ensures) ∙ n .before .before .if1 .taken) in
     (refl, omega arith, omega arith, s .pre .0, s .pre .1, rw e at (s .pre .5))
 
-same-length : tie.Need-same-length
-same-length c = search needs
-
 returns : tie.Need-returns
 returns c = let b = c .before .before in let n = b .before .before in let k = n .before .before .before in let a = k .before .before .before .args in
     rw (sub-kept (a .branch .keep) (a .branch .base) (a .branch .places) (a .t) (a .s .now) (a .spot .from) (n .npar-places .ensures) (sym (k .is-kept .ensures) ∙ n .before .before .if1 .taken)) (b .put-block .ensures)
-
-block-behind-requires : tie.Need-block-behind-requires
-block-behind-requires c κs = search needs
 
 returns-2 : tie.Need-returns-2
 returns-2 c = let k = c .before .before in let a = k .before .before .before .args in
@@ -42,12 +24,12 @@ pub put-sub-spec : {M : Type 1} → statement M
 put-sub-spec =
     tie.close
     (tie.spec
-    is-kept-requires
-    mul-npar-places
-    add-npar-places
-    npar-places-requires
+    (λ c κs. search needs)
+    (λ c. search needs)
+    (λ c. search needs)
+    (λ c κs. search needs)
     put-block-requires
-    same-length
+    (λ c. search needs)
     returns
-    block-behind-requires
+    (λ c κs. search needs)
     returns-2)

@@ -7,9 +7,6 @@ use Rattle.strike.proofs.Going.{behind-within, whole-room, whole-room-b
 use Rattle.strike.proofs.put_whole.Statement.{statement}
 use Rattle.strike.proofs.put_whole.Tie as tie
 
-npar-places-requires : tie.Need-npar-places-requires
-npar-places-requires c κs = search needs
-
 put-block-requires : tie.Need-put-block-requires
 put-block-requires c κs = let n = c .before in let s = n .before .before .before in let a = s .args in
     (refl, omega arith, omega arith, s .pre .0, s .pre .1, whole-room (a .keep) (a .c) (a .s .now) (a .spot .from) (n .npar-places .ensures) (a .out .now) (a .spot .to) (s .pre .3))
@@ -22,12 +19,6 @@ put-group-requires c κs = let x = c .before .before .before in let n = x .befor
   whole-room-behind (a .keep) (a .c) (a .s .now) (a .spot .from) (n .npar-places .ensures) (a .out .now) (a .spot .to) (s .pre .3) (x .put-block .ensures),
 )
 
-mark-last-requires : tie.Need-mark-last-requires
-mark-last-requires c κs = search needs
-
-same-length : tie.Need-same-length
-same-length c = search needs
-
 returns : tie.Need-returns
 returns c = let m = c .before .before in let y = m .before .before .before .before in let x = y .before .before .before .before in let n = x .before .before in let s = n .before .before .before in let a = s .args in
     whole-puts (a .keep) (a .c) (a .s .now) (a .spot .from) (n .npar-places .ensures) (a .out .now) (a .spot .to) (s .pre .3) (x .put-block .ensures) (y .put-group .ensures) (m .mark-last .ensures)
@@ -36,9 +27,9 @@ pub put-whole-spec : {M : Type 1} → statement M
 put-whole-spec =
     tie.close
     (tie.spec
-    npar-places-requires
+    (λ c κs. search needs)
     put-block-requires
     put-group-requires
-    mark-last-requires
-    same-length
+    (λ c κs. search needs)
+    (λ c. search needs)
     returns)

@@ -17,9 +17,6 @@ returns c =
     let a = c .before .before .before .args in
     rewrites-small (a .keep) (a .field) (a .s .now) (a .at) (a .out .now) (c .if1 .taken)
 
-field-end-requires : tie.Need-field-end-requires
-field-end-requires c κs = search needs
-
 returns-2 : tie.Need-returns-2
 returns-2 c =
     let f = c .before in
@@ -42,9 +39,6 @@ put-field-requires c κs =
     let a = start e .args in
     field-room (a .keep) (a .field) (a .s .now) (a .at) (a .out .now) (e .before .before .if1 .left) (octets e) (fine e)
 
-same-length : tie.Need-same-length
-same-length c = search needs
-
 returns-3 : tie.Need-returns-3
 returns-3 c =
     let e = c .before .before .before .before in
@@ -56,8 +50,8 @@ rewrite-field-spec =
     tie.close
     (tie.spec
     returns
-    field-end-requires
+    (λ c κs. search needs)
     returns-2
     put-field-requires
-    same-length
+    (λ c. search needs)
     returns-3)

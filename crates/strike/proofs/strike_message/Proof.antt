@@ -11,12 +11,6 @@ use Rattle.strike.proofs.strike_message.Tie as tie
 returns : tie.Need-returns
 returns c = strikes-small _ _ (c .if1 .taken)
 
-check-message-requires : tie.Need-check-message-requires
-check-message-requires c κs = search needs
-
-enum-known-parts : tie.Need-enum-known-parts
-enum-known-parts c = search needs
-
 put-struck-requires : tie.Need-put-struck-requires
 put-struck-requires c κs =
     let p = c .before .before in
@@ -24,18 +18,6 @@ put-struck-requires c κs =
     let s = m .before .before .before .before .args .s .now in
     let t = rw (p .parts .given .1) at (m .check-message .ensures) in
     (parted-accepted s _ t, kind-told s _ t, standard-told s _ t, tail-told s _ t, m .before .if1 .left)
-
-enum-told : tie.Need-enum-told
-enum-told c = search needs
-
-enum-told-2 : tie.Need-enum-told-2
-enum-told-2 c = search needs
-
-enum-told-3 : tie.Need-enum-told-3
-enum-told-3 c = search needs
-
-same-length : tie.Need-same-length
-same-length c = search needs
 
 returns-2 : tie.Need-returns-2
 returns-2 c =
@@ -64,13 +46,13 @@ strike-message-spec =
     tie.close
     (tie.spec
     returns
-    check-message-requires
-    enum-known-parts
+    (λ c κs. search needs)
+    (λ c. search needs)
     put-struck-requires
-    enum-told
-    enum-told-2
-    enum-told-3
-    same-length
+    (λ c. search needs)
+    (λ c. search needs)
+    (λ c. search needs)
+    (λ c. search needs)
     returns-2
     returns-3
     returns-4

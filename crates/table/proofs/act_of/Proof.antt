@@ -3,117 +3,6 @@ use borrow.Author.Needs.{needs}
 use Rattle.table.proofs.act_of.Statement.{statement}
 use Rattle.table.proofs.act_of.Tie as tie
 
-enum-told : tie.Need-enum-told
-enum-told c = search needs
-
-initial-act-requires : tie.Need-initial-act-requires
-initial-act-requires c κs = search needs
-
-enum-told-2 : tie.Need-enum-told-2
-enum-told-2 c = search needs
-
-on-mr-d-requires : tie.Need-on-mr-d-requires
-on-mr-d-requires c κs = search needs
-
-on-cr-d-requires : tie.Need-on-cr-d-requires
-on-cr-d-requires c κs = search needs
-
-judging-row-requires : tie.Need-judging-row-requires
-judging-row-requires c κs = search needs
-
-row-act-requires : tie.Need-row-act-requires
-row-act-requires c κs = search needs
-
-enum-told-3 : tie.Need-enum-told-3
-enum-told-3 c = search needs
-
-judging-row-requires-2 : tie.Need-judging-row-requires-2
-judging-row-requires-2 c κs = search needs
-
-row-act-requires-2 : tie.Need-row-act-requires-2
-row-act-requires-2 c κs = search needs
-
-enum-told-4 : tie.Need-enum-told-4
-enum-told-4 c = search needs
-
-on-cr-d-requires-2 : tie.Need-on-cr-d-requires-2
-on-cr-d-requires-2 c κs = search needs
-
-taking-row-requires : tie.Need-taking-row-requires
-taking-row-requires c κs = search needs
-
-row-act-requires-3 : tie.Need-row-act-requires-3
-row-act-requires-3 c κs = search needs
-
-enum-told-5 : tie.Need-enum-told-5
-enum-told-5 c = search needs
-
-taking-row-requires-2 : tie.Need-taking-row-requires-2
-taking-row-requires-2 c κs = search needs
-
-row-act-requires-4 : tie.Need-row-act-requires-4
-row-act-requires-4 c κs = search needs
-
-enum-told-6 : tie.Need-enum-told-6
-enum-told-6 c = search needs
-
-on-cr-d-requires-3 : tie.Need-on-cr-d-requires-3
-on-cr-d-requires-3 c κs = search needs
-
-judging-row-requires-3 : tie.Need-judging-row-requires-3
-judging-row-requires-3 c κs = search needs
-
-row-act-requires-5 : tie.Need-row-act-requires-5
-row-act-requires-5 c κs = search needs
-
-enum-told-7 : tie.Need-enum-told-7
-enum-told-7 c = search needs
-
-judging-row-requires-4 : tie.Need-judging-row-requires-4
-judging-row-requires-4 c κs = search needs
-
-row-act-requires-6 : tie.Need-row-act-requires-6
-row-act-requires-6 c κs = search needs
-
-enum-told-8 : tie.Need-enum-told-8
-enum-told-8 c = search needs
-
-taking-row-requires-3 : tie.Need-taking-row-requires-3
-taking-row-requires-3 c κs = search needs
-
-row-act-requires-7 : tie.Need-row-act-requires-7
-row-act-requires-7 c κs = search needs
-
-enum-told-9 : tie.Need-enum-told-9
-enum-told-9 c = search needs
-
-taking-row-requires-4 : tie.Need-taking-row-requires-4
-taking-row-requires-4 c κs = search needs
-
-row-act-requires-8 : tie.Need-row-act-requires-8
-row-act-requires-8 c κs = search needs
-
-enum-told-10 : tie.Need-enum-told-10
-enum-told-10 c = search needs
-
-judging-row-requires-5 : tie.Need-judging-row-requires-5
-judging-row-requires-5 c κs = search needs
-
-row-act-requires-9 : tie.Need-row-act-requires-9
-row-act-requires-9 c κs = search needs
-
-enum-told-11 : tie.Need-enum-told-11
-enum-told-11 c = search needs
-
-agreeing-row-requires : tie.Need-agreeing-row-requires
-agreeing-row-requires c κs = search needs
-
-row-act-requires-10 : tie.Need-row-act-requires-10
-row-act-requires-10 c κs = search needs
-
-enum-told-12 : tie.Need-enum-told-12
-enum-told-12 c = search needs
-
 returns : tie.Need-returns
 returns c = rw (c .before .enum-told .given .1) (c .initial-act .ensures)
 
@@ -154,43 +43,43 @@ pub act-of-spec : {M : Type 1} → statement M
 act-of-spec =
     tie.close
     (tie.spec
-    enum-told
-    initial-act-requires
-    enum-told-2
-    on-mr-d-requires
-    on-cr-d-requires
-    judging-row-requires
-    row-act-requires
-    enum-told-3
-    judging-row-requires-2
-    row-act-requires-2
-    enum-told-4
-    on-cr-d-requires-2
-    taking-row-requires
-    row-act-requires-3
-    enum-told-5
-    taking-row-requires-2
-    row-act-requires-4
-    enum-told-6
-    on-cr-d-requires-3
-    judging-row-requires-3
-    row-act-requires-5
-    enum-told-7
-    judging-row-requires-4
-    row-act-requires-6
-    enum-told-8
-    taking-row-requires-3
-    row-act-requires-7
-    enum-told-9
-    taking-row-requires-4
-    row-act-requires-8
-    enum-told-10
-    judging-row-requires-5
-    row-act-requires-9
-    enum-told-11
-    agreeing-row-requires
-    row-act-requires-10
-    enum-told-12
+    (λ c. search needs)
+    (λ c κs. search needs)
+    (λ c. search needs)
+    (λ c κs. search needs)
+    (λ c κs. search needs)
+    (λ c κs. search needs)
+    (λ c κs. search needs)
+    (λ c. search needs)
+    (λ c κs. search needs)
+    (λ c κs. search needs)
+    (λ c. search needs)
+    (λ c κs. search needs)
+    (λ c κs. search needs)
+    (λ c κs. search needs)
+    (λ c. search needs)
+    (λ c κs. search needs)
+    (λ c κs. search needs)
+    (λ c. search needs)
+    (λ c κs. search needs)
+    (λ c κs. search needs)
+    (λ c κs. search needs)
+    (λ c. search needs)
+    (λ c κs. search needs)
+    (λ c κs. search needs)
+    (λ c. search needs)
+    (λ c κs. search needs)
+    (λ c κs. search needs)
+    (λ c. search needs)
+    (λ c κs. search needs)
+    (λ c κs. search needs)
+    (λ c. search needs)
+    (λ c κs. search needs)
+    (λ c κs. search needs)
+    (λ c. search needs)
+    (λ c κs. search needs)
+    (λ c κs. search needs)
+    (λ c. search needs)
     returns
     returns-2
     returns-3

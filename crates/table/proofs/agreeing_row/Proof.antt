@@ -3,11 +3,8 @@ use borrow.Author.Needs.{needs}
 use Rattle.table.proofs.agreeing_row.Statement.{statement}
 use Rattle.table.proofs.agreeing_row.Tie as tie
 
-tone-act-requires : tie.Need-tone-act-requires
-tone-act-requires c κs = search needs
-
 returns : tie.Need-returns
 returns c = rw (c .tone-act .ensures)
 
 pub agreeing-row-spec : {M : Type 1} → statement M
-agreeing-row-spec = tie.close (tie.spec tone-act-requires returns)
+agreeing-row-spec = tie.close (tie.spec (λ c κs. search needs) returns)

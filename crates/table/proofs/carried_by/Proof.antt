@@ -3,72 +3,6 @@ use borrow.Author.Needs.{needs}
 use Rattle.table.proofs.carried_by.Statement.{statement}
 use Rattle.table.proofs.carried_by.Tie as tie
 
-enum-known-phase : tie.Need-enum-known-phase
-enum-known-phase c = search needs
-
-bare-requires : tie.Need-bare-requires
-bare-requires c κs = search needs
-
-enum-known-phase-2 : tie.Need-enum-known-phase-2
-enum-known-phase-2 c = search needs
-
-bare-requires-2 : tie.Need-bare-requires-2
-bare-requires-2 c κs = search needs
-
-enum-known-phase-3 : tie.Need-enum-known-phase-3
-enum-known-phase-3 c = search needs
-
-bare-requires-3 : tie.Need-bare-requires-3
-bare-requires-3 c κs = search needs
-
-enum-known-phase-4 : tie.Need-enum-known-phase-4
-enum-known-phase-4 c = search needs
-
-bare-requires-4 : tie.Need-bare-requires-4
-bare-requires-4 c κs = search needs
-
-enum-known-phase-5 : tie.Need-enum-known-phase-5
-enum-known-phase-5 c = search needs
-
-bare-requires-5 : tie.Need-bare-requires-5
-bare-requires-5 c κs = search needs
-
-enum-known-phase-6 : tie.Need-enum-known-phase-6
-enum-known-phase-6 c = search needs
-
-bare-requires-6 : tie.Need-bare-requires-6
-bare-requires-6 c κs = search needs
-
-enum-known-phase-7 : tie.Need-enum-known-phase-7
-enum-known-phase-7 c = search needs
-
-bare-requires-7 : tie.Need-bare-requires-7
-bare-requires-7 c κs = search needs
-
-enum-known-phase-8 : tie.Need-enum-known-phase-8
-enum-known-phase-8 c = search needs
-
-bare-requires-8 : tie.Need-bare-requires-8
-bare-requires-8 c κs = search needs
-
-enum-known-phase-9 : tie.Need-enum-known-phase-9
-enum-known-phase-9 c = search needs
-
-bare-requires-9 : tie.Need-bare-requires-9
-bare-requires-9 c κs = search needs
-
-enum-known-phase-10 : tie.Need-enum-known-phase-10
-enum-known-phase-10 c = search needs
-
-bare-requires-10 : tie.Need-bare-requires-10
-bare-requires-10 c κs = search needs
-
-enum-known-phase-11 : tie.Need-enum-known-phase-11
-enum-known-phase-11 c = search needs
-
-enum-known-phase-12 : tie.Need-enum-known-phase-12
-enum-known-phase-12 c = search needs
-
 returns : tie.Need-returns
 returns c = rw (c .before .before .phase .given .1) (c .bare .ensures)
 
@@ -109,28 +43,28 @@ pub carried-by-spec : {M : Type 1} → statement M
 carried-by-spec =
     tie.close
     (tie.spec
-    enum-known-phase
-    bare-requires
-    enum-known-phase-2
-    bare-requires-2
-    enum-known-phase-3
-    bare-requires-3
-    enum-known-phase-4
-    bare-requires-4
-    enum-known-phase-5
-    bare-requires-5
-    enum-known-phase-6
-    bare-requires-6
-    enum-known-phase-7
-    bare-requires-7
-    enum-known-phase-8
-    bare-requires-8
-    enum-known-phase-9
-    bare-requires-9
-    enum-known-phase-10
-    bare-requires-10
-    enum-known-phase-11
-    enum-known-phase-12
+    (λ c. search needs)
+    (λ c κs. search needs)
+    (λ c. search needs)
+    (λ c κs. search needs)
+    (λ c. search needs)
+    (λ c κs. search needs)
+    (λ c. search needs)
+    (λ c κs. search needs)
+    (λ c. search needs)
+    (λ c κs. search needs)
+    (λ c. search needs)
+    (λ c κs. search needs)
+    (λ c. search needs)
+    (λ c κs. search needs)
+    (λ c. search needs)
+    (λ c κs. search needs)
+    (λ c. search needs)
+    (λ c κs. search needs)
+    (λ c. search needs)
+    (λ c κs. search needs)
+    (λ c. search needs)
+    (λ c. search needs)
     returns
     returns-2
     returns-3

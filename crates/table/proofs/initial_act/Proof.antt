@@ -3,50 +3,11 @@ use borrow.Author.Needs.{needs}
 use Rattle.table.proofs.initial_act.Statement.{statement}
 use Rattle.table.proofs.initial_act.Tie as tie
 
-enum-known-heard : tie.Need-enum-known-heard
-enum-known-heard c = search needs
-
-start-act-requires : tie.Need-start-act-requires
-start-act-requires c κs = search needs
-
-enum-known-heard-2 : tie.Need-enum-known-heard-2
-enum-known-heard-2 c = search needs
-
-signal-act-requires : tie.Need-signal-act-requires
-signal-act-requires c κs = search needs
-
-enum-told : tie.Need-enum-told
-enum-told c = search needs
-
-enum-told-2 : tie.Need-enum-told-2
-enum-told-2 c = search needs
-
-enum-told-3 : tie.Need-enum-told-3
-enum-told-3 c = search needs
-
-enum-told-4 : tie.Need-enum-told-4
-enum-told-4 c = search needs
-
-enum-told-5 : tie.Need-enum-told-5
-enum-told-5 c = search needs
-
-enum-told-6 : tie.Need-enum-told-6
-enum-told-6 c = search needs
-
-enum-told-7 : tie.Need-enum-told-7
-enum-told-7 c = search needs
-
-enum-told-8 : tie.Need-enum-told-8
-enum-told-8 c = search needs
-
 returns : tie.Need-returns
 returns c = rw (c .before .before .heard .given .1) (c .start-act .ensures)
 
 returns-2 : tie.Need-returns-2
 returns-2 c = rw (c .before .before .heard2 .given .1) (c .signal-act .ensures)
-
-returns-3 : tie.Need-returns-3
-returns-3 c = search needs
 
 returns-4 : tie.Need-returns-4
 returns-4 c = rw (c .enum-told2 .given .1)
@@ -54,44 +15,29 @@ returns-4 c = rw (c .enum-told2 .given .1)
 returns-5 : tie.Need-returns-5
 returns-5 c = rw (c .enum-told3 .given .1)
 
-returns-6 : tie.Need-returns-6
-returns-6 c = search needs
-
-returns-7 : tie.Need-returns-7
-returns-7 c = search needs
-
-returns-8 : tie.Need-returns-8
-returns-8 c = search needs
-
-returns-9 : tie.Need-returns-9
-returns-9 c = search needs
-
-returns-10 : tie.Need-returns-10
-returns-10 c = search needs
-
 pub initial-act-spec : {M : Type 1} → statement M
 initial-act-spec =
     tie.close
     (tie.spec
-    enum-known-heard
-    start-act-requires
-    enum-known-heard-2
-    signal-act-requires
-    enum-told
-    enum-told-2
-    enum-told-3
-    enum-told-4
-    enum-told-5
-    enum-told-6
-    enum-told-7
-    enum-told-8
+    (λ c. search needs)
+    (λ c κs. search needs)
+    (λ c. search needs)
+    (λ c κs. search needs)
+    (λ c. search needs)
+    (λ c. search needs)
+    (λ c. search needs)
+    (λ c. search needs)
+    (λ c. search needs)
+    (λ c. search needs)
+    (λ c. search needs)
+    (λ c. search needs)
     returns
     returns-2
-    returns-3
+    (λ c. search needs)
     returns-4
     returns-5
-    returns-6
-    returns-7
-    returns-8
-    returns-9
-    returns-10)
+    (λ c. search needs)
+    (λ c. search needs)
+    (λ c. search needs)
+    (λ c. search needs)
+    (λ c. search needs))

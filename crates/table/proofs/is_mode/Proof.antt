@@ -4,14 +4,8 @@ use mathlib.Core.Bool.{or-false}
 use Rattle.table.proofs.is_mode.Statement.{statement}
 use Rattle.table.proofs.is_mode.Tie as tie
 
-number-of-requires : tie.Need-number-of-requires
-number-of-requires c κs = search needs
-
-number-of-requires-2 : tie.Need-number-of-requires-2
-number-of-requires-2 c κs = search needs
-
 returns : tie.Need-returns
 returns c = rw (or-false, c .before .number-of .ensures, c .number-of2 .ensures)
 
 pub is-mode-spec : {M : Type 1} → statement M
-is-mode-spec = tie.close (tie.spec number-of-requires number-of-requires-2 returns)
+is-mode-spec = tie.close (tie.spec (λ c κs. search needs) (λ c κs. search needs) returns)

@@ -7,19 +7,10 @@ use Rattle.table.specs.Phases.{kindNumber}
 use Rattle.table.proofs.is_over.Statement.{statement}
 use Rattle.table.proofs.is_over.Tie as tie
 
-is-mode-requires : tie.Need-is-mode-requires
-is-mode-requires c κs = search needs
-
 returns : tie.Need-returns
 returns c =
     let m = c .before in
     rw (sym (or-false (eqb (kindNumber (m .before .args .kind)) 11)) ∙ sym (m .is-mode .ensures) ∙ c .if1 .taken)
-
-number-of-requires : tie.Need-number-of-requires
-number-of-requires c κs = search needs
-
-number-of-requires-2 : tie.Need-number-of-requires-2
-number-of-requires-2 c κs = search needs
 
 returns-2 : tie.Need-returns-2
 returns-2 c =
@@ -29,4 +20,4 @@ returns-2 c =
 
 pub is-over-spec : {M : Type 1} → statement M
 is-over-spec =
-    tie.close (tie.spec is-mode-requires returns number-of-requires number-of-requires-2 returns-2)
+    tie.close (tie.spec (λ c κs. search needs) returns (λ c κs. search needs) (λ c κs. search needs) returns-2)

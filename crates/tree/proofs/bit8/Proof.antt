@@ -12,14 +12,8 @@ use Rattle.tree.proofs.bit8.Tie as tie
 index : (c : tie.Joined1) → c .if1 .i ≡ c .before .before .args .e - 1
 index c = ⊎-elim (λ w. omega arith) (λ w. omega arith) (c .if1 .came)
 
-sub-i : tie.Need-sub-i
-sub-i c = search needs
-
-octet-or-zero-requires : tie.Need-octet-or-zero-requires
-octet-or-zero-requires c κs = search needs
-
 returns : tie.Need-returns
 returns c = rw (c .octet-or-zero .ensures, index (c .before))
 
 pub bit8-spec : {M : Type 1} → statement M
-bit8-spec = tie.close (tie.spec sub-i octet-or-zero-requires returns)
+bit8-spec = tie.close (tie.spec (λ c. search needs) (λ c κs. search needs) returns)

@@ -32,9 +32,6 @@ cast-bits c = omega (arith, low c)
 shr-bits : tie.Need-shr-bits Inv-loop μ-loop
 shr-bits c = omega (arith, low c)
 
-block-behind-requires : tie.Need-block-behind-requires Inv-loop μ-loop
-block-behind-requires c κs = search needs
-
 loop-less : tie.Need-loop-less Inv-loop μ-loop
 loop-less c = let L = c .before .before .loop in omega (arith, shr-le (L .bits) (trailingZeros 8 (L .bits)))
 
@@ -55,7 +52,7 @@ blocks-behind-spec =
     loop-holds
     cast-bits
     shr-bits
-    block-behind-requires
+    (λ c κs. search needs)
     loop-less
     loop-again
     returns)

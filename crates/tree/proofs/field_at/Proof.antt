@@ -14,12 +14,6 @@ returns c =
     let f = form-over (c .before .before .args .s .now) (c .before .before .args .at) (c .if1 .taken) in
     record { told = sym f; at = λ z. cc }
 
-block-at-requires : tie.Need-block-at-requires
-block-at-requires c κs = search needs
-
-is-fine-requires : tie.Need-is-fine-requires
-is-fine-requires c κs = search needs
-
 returns-2 : tie.Need-returns-2
 unfolding fieldForm
 returns-2 c =
@@ -27,9 +21,6 @@ returns-2 c =
     told-as
     (told-bad (formAt 128 (a .s .now) (a .at)) _ _ _ (c .before .before .block-at .ensures .0) (sym (c .before .is-fine .ensures) ∙ not-true _ (c .if2 .taken)))
     (sym (form-in (a .s .now) (a .at) (c .before .before .before .if1 .left))) refl
-
-rest-at-requires : tie.Need-rest-at-requires
-rest-at-requires c κs = search needs
 
 returns-3 : tie.Need-returns-3
 returns-3 c =
@@ -43,4 +34,4 @@ returns-3 c =
 pub field-at-spec : {M : Type 1} → statement M
 field-at-spec =
     tie.close
-    (tie.spec returns block-at-requires is-fine-requires returns-2 rest-at-requires returns-3)
+    (tie.spec returns (λ c κs. search needs) (λ c κs. search needs) returns-2 (λ c κs. search needs) returns-3)

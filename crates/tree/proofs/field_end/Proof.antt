@@ -5,11 +5,8 @@ use Rattle.tree.specs.declared.Reach.{Reach}
 use Rattle.tree.proofs.field_end.Statement.{statement}
 use Rattle.tree.proofs.field_end.Tie as tie
 
-field-form-requires : tie.Need-field-form-requires
-field-form-requires c κs = search needs
-
 returns : tie.Need-returns
 returns c = ap (λ (r : Reach). r .at) (c .field-form .ensures)
 
 pub field-end-spec : {M : Type 1} → statement M
-field-end-spec = tie.close (tie.spec field-form-requires returns)
+field-end-spec = tie.close (tie.spec (λ c κs. search needs) returns)

@@ -5,12 +5,6 @@ use Rattle.tree.proofs.Forms.{reach-fine, reach-none}
 use Rattle.tree.proofs.field_form.Statement.{statement}
 use Rattle.tree.proofs.field_form.Tie as tie
 
-field-at-requires : tie.Need-field-at-requires
-field-at-requires c κs = search needs
-
-is-fine-requires : tie.Need-is-fine-requires
-is-fine-requires c κs = search needs
-
 returns : tie.Need-returns
 returns c = reach-fine (c .before .before .field-at .ensures) (sym (c .before .is-fine .ensures) ∙ c .if1 .taken)
 
@@ -18,4 +12,4 @@ returns-2 : tie.Need-returns-2
 returns-2 c = reach-none (c .before .before .field-at .ensures) (sym (c .before .is-fine .ensures) ∙ c .if1 .left)
 
 pub field-form-spec : {M : Type 1} → statement M
-field-form-spec = tie.close (tie.spec field-at-requires is-fine-requires returns returns-2)
+field-form-spec = tie.close (tie.spec (λ c κs. search needs) (λ c κs. search needs) returns returns-2)

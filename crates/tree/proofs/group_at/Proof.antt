@@ -14,25 +14,13 @@ use Rattle.tree.proofs.group_at.Tie as tie
 two-fine : (c : tie.Else2) → formAt 64 (c .before .before .before .before .before .before .args .s .now) (c .before .before .before .before .before .before .args .e) ≡ Fine
 two-fine c = told-fine (c .before .before .block-at .ensures .0) (sym (c .before .is-fine .ensures) ∙ not-false _ (c .if2 .left))
 
-bit8-requires : tie.Need-bit8-requires
-bit8-requires c κs = search needs
-
 returns : tie.Need-returns
 returns c = group-done _ (c .before .before .before .args .e) (sym (c .before .bit8 .ensures) ∙ c .if1 .taken)
-
-block-at-requires : tie.Need-block-at-requires
-block-at-requires c κs = search needs
-
-is-fine-requires : tie.Need-is-fine-requires
-is-fine-requires c κs = search needs
 
 returns-2 : tie.Need-returns-2
 returns-2 c =
     group-bad _ (c .before .before .before .before .before .before .args .e) _ (sym (c .before .before .before .before .bit8 .ensures) ∙ c .before .before .before .if1 .left)
     (c .before .before .block-at .ensures .0) (sym (c .before .is-fine .ensures) ∙ not-true _ (c .if2 .taken))
-
-ones-in-requires : tie.Need-ones-in-requires
-ones-in-requires c κs = search needs
 
 subs-at-requires : tie.Need-subs-at-requires
 subs-at-requires c κs =
@@ -49,11 +37,11 @@ pub group-at-spec : {M : Type 1} → statement M
 group-at-spec =
     tie.close
     (tie.spec
-    bit8-requires
+    (λ c κs. search needs)
     returns
-    block-at-requires
-    is-fine-requires
+    (λ c κs. search needs)
+    (λ c κs. search needs)
     returns-2
-    ones-in-requires
+    (λ c κs. search needs)
     subs-at-requires
     returns-3)

@@ -6,18 +6,9 @@ use Rattle.tree.specs.Codes.{groupBehind}
 use Rattle.tree.proofs.group_behind.Statement.{statement}
 use Rattle.tree.proofs.group_behind.Tie as tie
 
-bit8-requires : tie.Need-bit8-requires
-bit8-requires c κs = search needs
-
 returns : tie.Need-returns
 unfolding groupBehind
 returns c = rw (sym (c .before .bit8 .ensures) ∙ c .if1 .taken)
-
-block-behind-requires : tie.Need-block-behind-requires
-block-behind-requires c κs = search needs
-
-subs-behind-requires : tie.Need-subs-behind-requires
-subs-behind-requires c κs = search needs
 
 returns-2 : tie.Need-returns-2
 unfolding groupBehind
@@ -26,4 +17,4 @@ returns-2 c =
     rw (sym (b .before .bit8 .ensures) ∙ b .if1 .left, ← c .before .block-behind .ensures) (c .subs-behind .ensures)
 
 pub group-behind-spec : {M : Type 1} → statement M
-group-behind-spec = tie.close (tie.spec bit8-requires returns block-behind-requires subs-behind-requires returns-2)
+group-behind-spec = tie.close (tie.spec (λ c κs. search needs) returns (λ c κs. search needs) (λ c κs. search needs) returns-2)

@@ -15,12 +15,6 @@ returns : tie.Need-returns
 unfolding hasSpar
 returns c = let a = c .before .before .args in rw (codes-long Standard (a .s .now) (a .at) (c .if1 .taken))
 
-block-at-requires : tie.Need-block-at-requires
-block-at-requires c κs = search needs
-
-ones-in-requires : tie.Need-ones-in-requires
-ones-in-requires c κs = search needs
-
 returns-2 : tie.Need-returns-2
 unfolding codesIn
 returns-2 c =
@@ -28,4 +22,4 @@ returns-2 c =
     rw (le-ltb 64 _ (c .before .before .if1 .left), c .ones-in .ensures .0, c .before .block-at .ensures .1) (sym (field-spar (fieldBase 2) (a .s .now) (a .at) refl (search needs)))
 
 pub has-spar-spec : {M : Type 1} → statement M
-has-spar-spec = tie.close (tie.spec returns block-at-requires ones-in-requires returns-2)
+has-spar-spec = tie.close (tie.spec returns (λ c κs. search needs) (λ c κs. search needs) returns-2)

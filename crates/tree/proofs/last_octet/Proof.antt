@@ -5,9 +5,6 @@ use borrow.Author.Tests.{eq-eqb, ne-eqb}
 use Rattle.tree.proofs.last_octet.Statement.{statement}
 use Rattle.tree.proofs.last_octet.Tie as tie
 
-div-if1 : tie.Need-div-if1
-div-if1 c = search needs
-
 returns : tie.Need-returns
 returns c = rw (eq-eqb _ _ (c .if1 .taken))
 
@@ -15,4 +12,4 @@ returns-2 : tie.Need-returns-2
 returns-2 c = rw (ne-eqb _ _ (c .if1 .left))
 
 pub last-octet-spec : {M : Type 1} → statement M
-last-octet-spec = tie.close (tie.spec div-if1 returns returns-2)
+last-octet-spec = tie.close (tie.spec (λ c. search needs) returns returns-2)

@@ -21,34 +21,16 @@ abbrev μ-loop : tie.MeasureT-loop
 loop-holds : tie.Need-loop-holds Inv-loop μ-loop
 loop-holds c = (refl, omega arith)
 
-shared-slice-read-o : tie.Need-shared-slice-read-o Inv-loop μ-loop
-shared-slice-read-o c = search needs
-
-octet-fits-requires : tie.Need-octet-fits-requires Inv-loop μ-loop
-octet-fits-requires c κs = search needs
-
 returns : tie.Need-returns Inv-loop μ-loop
 returns c =
     let L = c .before .before .before .before .loop in
     sym (low-wide _ (L .i) (L .before) (search needs) (sym (c .before .octet-fits .ensures) ∙ not-true _ (c .if1 .taken))) ∙ L .inv .0
-
-add-i : tie.Need-add-i Inv-loop μ-loop
-add-i c = search needs
-
-add-before : tie.Need-add-before Inv-loop μ-loop
-add-before c = search needs
-
-loop-less : tie.Need-loop-less Inv-loop μ-loop
-loop-less c = search needs
 
 loop-again : tie.Need-loop-again Inv-loop μ-loop
 loop-again c =
     let o = c .before .before in
     let L = o .before .before .before .loop in
     (sym (low-on _ (L .i) (L .before) (search needs) (sym (o .octet-fits .ensures) ∙ not-false _ (c .before .if1 .left)) (c .if2 .taken)) ∙ L .inv .0, omega arith)
-
-loop-less-2 : tie.Need-loop-less-2 Inv-loop μ-loop
-loop-less-2 c = search needs
 
 loop-again-2 : tie.Need-loop-again-2 Inv-loop μ-loop
 loop-again-2 c =
@@ -68,13 +50,13 @@ low-fits-spec =
     Inv-loop
     μ-loop
     loop-holds
-    shared-slice-read-o
-    octet-fits-requires
+    (λ c. search needs)
+    (λ c κs. search needs)
     returns
-    add-i
-    add-before
-    loop-less
+    (λ c. search needs)
+    (λ c. search needs)
+    (λ c. search needs)
     loop-again
-    loop-less-2
+    (λ c. search needs)
     loop-again-2
     returns-2)

@@ -9,21 +9,6 @@ use lib.Seq.{set-out}
 use Rattle.tree.proofs.mark_last.Statement.{statement}
 use Rattle.tree.proofs.mark_last.Tie as tie
 
-sub-i : tie.Need-sub-i
-sub-i c = search needs
-
-slice-read-out : tie.Need-slice-read-out
-slice-read-out c = search needs
-
-add-out : tie.Need-add-out
-add-out c = search needs
-
-slice-write-out : tie.Need-slice-write-out
-slice-write-out c = search needs
-
-same-length : tie.Need-same-length
-same-length c = search needs
-
 returns : tie.Need-returns
 returns c = rw (lt-ltb _ _ (c .before .if2 .taken))
 
@@ -36,4 +21,4 @@ returns-3 c =
     rw (lt-ltb 0 (a .e) (omega (arith, c .if1 .left))) (sym (set-out (a .out .now) (a .e - 1) _ (omega (arith, c .if1 .left))))
 
 pub mark-last-spec : {M : Type 1} → statement M
-mark-last-spec = tie.close (tie.spec sub-i slice-read-out add-out slice-write-out same-length returns returns-2 returns-3)
+mark-last-spec = tie.close (tie.spec (λ c. search needs) (λ c. search needs) (λ c. search needs) (λ c. search needs) (λ c. search needs) returns returns-2 returns-3)

@@ -35,9 +35,6 @@ counted c =
 loop-holds : tie.Need-loop-holds Inv-loop μ-loop
 loop-holds c = omega arith
 
-shared-slice-read-o : tie.Need-shared-slice-read-o Inv-loop μ-loop
-shared-slice-read-o c = search needs
-
 rem-ones : tie.Need-rem-ones Inv-loop μ-loop
 rem-ones c = omega (arith, pow-pos (c .before .before .before .args .w))
 
@@ -58,12 +55,6 @@ returns c =
     let a = c .before .before .before .before .args in
     omega (arith, counted (c .before), announced-stop (a .w) (a .m) (c .before .before .before .loop .i) (a .s .now) (search needs) (search needs) (search needs))
 
-add-i : tie.Need-add-i Inv-loop μ-loop
-add-i c = search needs
-
-loop-less : tie.Need-loop-less Inv-loop μ-loop
-loop-less c = search needs
-
 loop-again : tie.Need-loop-again Inv-loop μ-loop
 loop-again c =
     let a = c .before .before .before .before .args in
@@ -82,13 +73,13 @@ ones-in-spec =
     Inv-loop
     μ-loop
     loop-holds
-    shared-slice-read-o
+    (λ c. search needs)
     rem-ones
     cast-ones
     cast-ones-2
     add-ones
     returns
-    add-i
-    loop-less
+    (λ c. search needs)
+    (λ c. search needs)
     loop-again
     returns-2)

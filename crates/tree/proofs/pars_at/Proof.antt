@@ -24,12 +24,6 @@ two-fine c = told-fine (c .before .before .block-at .ensures .0) (sym (c .before
 loop-holds : tie.Need-loop-holds Inv-loop μ-loop
 loop-holds c = (refl, refl)
 
-block-at-requires : tie.Need-block-at-requires Inv-loop μ-loop
-block-at-requires c κs = search needs
-
-is-fine-requires : tie.Need-is-fine-requires Inv-loop μ-loop
-is-fine-requires c κs = search needs
-
 returns : tie.Need-returns Inv-loop μ-loop
 returns c =
     let L = c .before .before .before .before .loop in
@@ -43,9 +37,6 @@ group-at-requires c κs =
     let s = c .before .before .before .before .before .before .args .s .now in
     (omega (arith, c .before .before .block-at .ensures .1, fine-behind 64 s (L .e) (two-fine c)), c .before .before .before .before .before .before .pre)
 
-is-fine-requires-2 : tie.Need-is-fine-requires-2 Inv-loop μ-loop
-is-fine-requires-2 c κs = search needs
-
 returns-2 : tie.Need-returns-2 Inv-loop μ-loop
 returns-2 c =
     let b = c .before .before .before in
@@ -54,12 +45,6 @@ returns-2 c =
     (pars-stop (L .left) _ (L .e) _ _ (search needs) (two-fine b) (b .before .before .block-at .ensures .1)
     (c .before .before .group-at .ensures .told) (sym (c .before .is-fine2 .ensures) ∙ not-true _ (c .if2 .taken)))
     (L .inv .0) (L .inv .1)
-
-sub-left : tie.Need-sub-left Inv-loop μ-loop
-sub-left c = search needs
-
-loop-less : tie.Need-loop-less Inv-loop μ-loop
-loop-less c = search needs
 
 loop-again : tie.Need-loop-again Inv-loop μ-loop
 loop-again c =
@@ -80,13 +65,13 @@ pars-at-spec =
     Inv-loop
     μ-loop
     loop-holds
-    block-at-requires
-    is-fine-requires
+    (λ c κs. search needs)
+    (λ c κs. search needs)
     returns
     group-at-requires
-    is-fine-requires-2
+    (λ c κs. search needs)
     returns-2
-    sub-left
-    loop-less
+    (λ c. search needs)
+    (λ c. search needs)
     loop-again
     returns-3)

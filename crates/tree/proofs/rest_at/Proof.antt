@@ -8,23 +8,11 @@ use Rattle.tree.proofs.Forms.{told-fine, told-bad, rest-go}
 use Rattle.tree.proofs.rest_at.Statement.{statement}
 use Rattle.tree.proofs.rest_at.Tie as tie
 
-block-at-requires : tie.Need-block-at-requires
-block-at-requires c κs = search needs
-
-is-fine-requires : tie.Need-is-fine-requires
-is-fine-requires c κs = search needs
-
 returns : tie.Need-returns
 unfolding restForm
 returns c =
     let a = c .before .before .before .before .args in
     told-bad (formAt 128 (a .s .now) (a .e)) _ _ _ (c .before .before .block-at .ensures .0) (sym (c .before .is-fine .ensures) ∙ not-true _ (c .if1 .taken))
-
-ones-in-requires : tie.Need-ones-in-requires
-ones-in-requires c κs = search needs
-
-pars-at-requires : tie.Need-pars-at-requires
-pars-at-requires c κs = search needs
 
 returns-2 : tie.Need-returns-2
 returns-2 c =
@@ -37,9 +25,9 @@ pub rest-at-spec : {M : Type 1} → statement M
 rest-at-spec =
     tie.close
     (tie.spec
-    block-at-requires
-    is-fine-requires
+    (λ c κs. search needs)
+    (λ c κs. search needs)
     returns
-    ones-in-requires
-    pars-at-requires
+    (λ c κs. search needs)
+    (λ c κs. search needs)
     returns-2)

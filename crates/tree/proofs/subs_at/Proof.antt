@@ -19,22 +19,10 @@ abbrev μ-loop : tie.MeasureT-loop
 loop-holds : tie.Need-loop-holds Inv-loop μ-loop
 loop-holds c = (search needs, refl, refl)
 
-bit8-requires : tie.Need-bit8-requires Inv-loop μ-loop
-bit8-requires c κs = search needs
-
-sub-t10 : tie.Need-sub-t10 Inv-loop μ-loop
-sub-t10 c = search needs
-
 returns : tie.Need-returns Inv-loop μ-loop
 returns c =
     let L = c .before .before .before .loop in
     told-as (subs-wrong (L .left) _ (L .e) (search needs) (sym (c .before .bit8 .ensures) ∙ c .if1 .taken)) (L .inv .1) (L .inv .2)
-
-block-at-requires : tie.Need-block-at-requires Inv-loop μ-loop
-block-at-requires c κs = search needs
-
-is-fine-requires : tie.Need-is-fine-requires Inv-loop μ-loop
-is-fine-requires c κs = search needs
 
 returns-2 : tie.Need-returns-2 Inv-loop μ-loop
 returns-2 c =
@@ -44,12 +32,6 @@ returns-2 c =
     (c .before .before .block-at .ensures .0) (sym (c .before .is-fine .ensures) ∙ not-true _ (c .if2 .taken)))
     (L .inv .1) (L .inv .2)
 
-sub-left : tie.Need-sub-left Inv-loop μ-loop
-sub-left c = search needs
-
-loop-less : tie.Need-loop-less Inv-loop μ-loop
-loop-less c = search needs
-
 loop-again : tie.Need-loop-again Inv-loop μ-loop
 loop-again c =
     let L = c .before .before .before .before .before .before .loop in
@@ -58,16 +40,10 @@ loop-again c =
     (told-fine (B .0) (sym (c .before .is-fine .ensures) ∙ not-false _ (c .if2 .left))) (B .1) in
     (g .0, g .1 ∙ L .inv .1, g .2 ∙ L .inv .2)
 
-bit8-requires-2 : tie.Need-bit8-requires-2 Inv-loop μ-loop
-bit8-requires-2 c κs = search needs
-
 returns-3 : tie.Need-returns-3 Inv-loop μ-loop
 returns-3 c =
     let L = c .before .before .before .loop in
     told-as (subs-done (L .left) _ (L .e) (search needs) (sym (c .before .bit82 .ensures) ∙ c .if3 .taken)) (L .inv .1) (L .inv .2)
-
-sub-t15 : tie.Need-sub-t15 Inv-loop μ-loop
-sub-t15 c = search needs
 
 returns-4 : tie.Need-returns-4 Inv-loop μ-loop
 returns-4 c =
@@ -81,16 +57,16 @@ subs-at-spec =
     Inv-loop
     μ-loop
     loop-holds
-    bit8-requires
-    sub-t10
+    (λ c κs. search needs)
+    (λ c. search needs)
     returns
-    block-at-requires
-    is-fine-requires
+    (λ c κs. search needs)
+    (λ c κs. search needs)
     returns-2
-    sub-left
-    loop-less
+    (λ c. search needs)
+    (λ c. search needs)
     loop-again
-    bit8-requires-2
+    (λ c κs. search needs)
     returns-3
-    sub-t15
+    (λ c. search needs)
     returns-4)

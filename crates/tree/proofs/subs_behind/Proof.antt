@@ -21,9 +21,6 @@ abbrev μ-loop : tie.MeasureT-loop
 loop-holds : tie.Need-loop-holds Inv-loop μ-loop
 loop-holds c = refl
 
-shared-slice-read-o : tie.Need-shared-slice-read-o Inv-loop μ-loop
-shared-slice-read-o c = search needs
-
 blocks-behind-requires : tie.Need-blocks-behind-requires Inv-loop μ-loop
 blocks-behind-requires c κs = omega arith
 
@@ -33,12 +30,6 @@ returns c =
     let a = c .before .before .before .before .before .before .args in
     c .before .blocks-behind .ensures
     ∙ sym (ap (λ n. subsBehind n (a .s .now) (L .at)) (announced-stop 6 64 (L .i) (a .s .now) refl (search needs) (search needs))) ∙ L .inv
-
-add-i : tie.Need-add-i Inv-loop μ-loop
-add-i c = search needs
-
-loop-less : tie.Need-loop-less Inv-loop μ-loop
-loop-less c = search needs
 
 loop-again : tie.Need-loop-again Inv-loop μ-loop
 loop-again c =
@@ -62,10 +53,10 @@ subs-behind-spec =
     Inv-loop
     μ-loop
     loop-holds
-    shared-slice-read-o
+    (λ c. search needs)
     blocks-behind-requires
     returns
-    add-i
-    loop-less
+    (λ c. search needs)
+    (λ c. search needs)
     loop-again
     returns-2)

@@ -7,9 +7,6 @@ use Rattle.tree.proofs.Forms.{end-above}
 use Rattle.tree.proofs.top_fits.Statement.{statement}
 use Rattle.tree.proofs.top_fits.Tie as tie
 
-top-behind-requires : tie.Need-top-behind-requires
-top-behind-requires c κs = search needs
-
 sub-result : tie.Need-sub-result
 sub-result c = let a = c .before .before .args in omega (arith, c .top-behind .ensures, end-above 128 (a .e) (drop (a .e) (a .s .now)))
 
@@ -17,4 +14,4 @@ returns : tie.Need-returns
 returns c = rw (c .top-behind .ensures)
 
 pub top-fits-spec : {M : Type 1} → statement M
-top-fits-spec = tie.close (tie.spec top-behind-requires sub-result returns)
+top-fits-spec = tie.close (tie.spec (λ c κs. search needs) sub-result returns)

@@ -19,14 +19,8 @@ abbrev μ-loop : tie.MeasureT-loop
 loop-holds : tie.Need-loop-holds Inv-loop μ-loop
 loop-holds c w h = block-start
 
-shared-slice-read-o : tie.Need-shared-slice-read-o Inv-loop μ-loop
-shared-slice-read-o c = search needs
-
 add-i : tie.Need-add-i Inv-loop μ-loop
 add-i c = omega arith
-
-rem-if1 : tie.Need-rem-if1 Inv-loop μ-loop
-rem-if1 c = search needs
 
 returns : tie.Need-returns Inv-loop μ-loop
 returns c w h = let b = c .before .before in let a = b .before .before in
@@ -53,9 +47,9 @@ block-empty-spec =
     Inv-loop
     μ-loop
     loop-holds
-    shared-slice-read-o
+    (λ c. search needs)
     add-i
-    rem-if1
+    (λ c. search needs)
     returns
     returns-2
     loop-less

@@ -22,12 +22,6 @@ abbrev μ-loop : tie.MeasureT-loop
 loop-holds : tie.Need-loop-holds Inv-loop μ-loop
 loop-holds c = block-start
 
-shared-slice-read-mine : tie.Need-shared-slice-read-mine Inv-loop μ-loop
-shared-slice-read-mine c = search needs
-
-octet-or-zero-requires : tie.Need-octet-or-zero-requires Inv-loop μ-loop
-octet-or-zero-requires c κs = search needs
-
 rem-set : tie.Need-rem-set Inv-loop μ-loop
 rem-set c = omega (arith, pow-pos (c .before .before .before .before .before .before .args .w))
 
@@ -50,15 +44,9 @@ returns-2 : tie.Need-returns-2 Inv-loop μ-loop
 returns-2 c = let i = c .before in let n = i .before in let z = n .before in let b = z .before .before in let a = b .before .before .before .before in let v = z .octet-or-zero .ensures in
     block-last (b .before .loop .inv) (a .pre .0) (rw v at (n .if1 .left)) (b .loop-test .taken) (c .if3 .taken) refl refl (sym (behind-stop _ _ _ (stands i) (rw v at (i .if2 .taken))))
 
-block-empty-requires : tie.Need-block-empty-requires Inv-loop μ-loop
-block-empty-requires c κs = search needs
-
 returns-3 : tie.Need-returns-3 Inv-loop μ-loop
 returns-3 c = let l = c .before in let i = l .before in let n = i .before in let z = n .before in let b = z .before .before in let a = b .before .before .before .before in let v = z .octet-or-zero .ensures in
     block-rest (b .before .loop .inv) (a .pre .0) (rw v at (n .if1 .left)) (b .loop-test .taken) (l .if3 .left) (stands i) (rw v at (i .if2 .taken)) (c .block-empty .ensures)
-
-add-j-2 : tie.Need-add-j-2 Inv-loop μ-loop
-add-j-2 c = search needs
 
 loop-less : tie.Need-loop-less Inv-loop μ-loop
 loop-less c = omega arith
@@ -72,9 +60,6 @@ loop-less-2 c = omega arith
 loop-again-2 : tie.Need-loop-again-2 Inv-loop μ-loop
 loop-again-2 c = let l = c .before in let n = l .before .before in let z = n .before in let b = z .before .before in let a = b .before .before .before .before in let v = z .octet-or-zero .ensures in block-alone (b .before .loop .inv) (a .pre .0) (rw v at (n .if1 .left)) (b .loop-test .taken) (l .if4 .left) (c .if5 .left)
 
-passed-over-requires : tie.Need-passed-over-requires Inv-loop μ-loop
-passed-over-requires c κs = search needs
-
 returns-4 : tie.Need-returns-4 Inv-loop μ-loop
 returns-4 c = let o = c .before in let l = o .before in let h = l .before .before .before .pre .0 in let e = c .passed-over .ensures in let past = rw (← h) at (e .2) in
     ⊎-elim (λ d. block-done (l .loop .inv) (d .0 .left) (e .0) (e .1 ∙ d .1) past)
@@ -87,19 +72,19 @@ block-within-spec =
     Inv-loop
     μ-loop
     loop-holds
-    shared-slice-read-mine
-    octet-or-zero-requires
+    (λ c. search needs)
+    (λ c κs. search needs)
     rem-set
     returns
     add-i
     add-j
     returns-2
-    block-empty-requires
+    (λ c κs. search needs)
     returns-3
-    add-j-2
+    (λ c. search needs)
     loop-less
     loop-again
     loop-less-2
     loop-again-2
-    passed-over-requires
+    (λ c κs. search needs)
     returns-4)

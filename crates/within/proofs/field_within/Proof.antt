@@ -7,9 +7,6 @@ use Rattle.within.proofs.Beside.{field-lost, field-found}
 use Rattle.within.proofs.field_within.Statement.{statement}
 use Rattle.within.proofs.field_within.Tie as tie
 
-block-within-requires : tie.Need-block-within-requires
-block-within-requires c κs = search needs
-
 returns : tie.Need-returns
 returns c = let w = c .before .before in let b = w .before .before .before in field-lost _ _ _ _ (b .pre .0) (b .pre .1) (w .block-within .ensures) (not-true _ (c .if1 .taken))
 
@@ -22,4 +19,4 @@ returns-2 c = let n = c .before in let w = n .before .before in let b = w .befor
 
 pub field-within-spec : {M : Type 1} → statement M
 field-within-spec =
-    tie.close (tie.spec block-within-requires returns pars-within-requires returns-2)
+    tie.close (tie.spec (λ c κs. search needs) returns pars-within-requires returns-2)

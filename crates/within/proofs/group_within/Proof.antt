@@ -6,35 +6,17 @@ use Rattle.within.proofs.Beside.{group-none, group-past, group-alone, g
 use Rattle.within.proofs.group_within.Statement.{statement}
 use Rattle.within.proofs.group_within.Tie as tie
 
-bit8-requires : tie.Need-bit8-requires
-bit8-requires c κs = search needs
-
-bit8-requires-2 : tie.Need-bit8-requires-2
-bit8-requires-2 c κs = search needs
-
 returns : tie.Need-returns
 returns c = let f = c .before in let i = f .before in
     group-none _ _ _ _ (sym (f .bit82 .ensures) ∙ c .if2 .taken) refl refl (sym (group-past _ _ (sym (i .before .bit8 .ensures) ∙ i .if1 .taken)))
-
-block-empty-requires : tie.Need-block-empty-requires
-block-empty-requires c κs = search needs
 
 returns-2 : tie.Need-returns-2
 returns-2 c = let n = c .before in let f = n .before in let i = f .before in
     group-alone _ _ _ _ (sym (f .bit82 .ensures) ∙ n .if2 .left) (sym (i .before .bit8 .ensures) ∙ i .if1 .taken) (c .block-empty .ensures)
 
-bit8-requires-3 : tie.Need-bit8-requires-3
-bit8-requires-3 c κs = search needs
-
-group-behind-requires : tie.Need-group-behind-requires
-group-behind-requires c κs = search needs
-
 returns-3 : tie.Need-returns-3
 returns-3 c = let i = c .before in let f = i .before in
     group-none _ _ _ _ (sym (f .bit83 .ensures) ∙ i .if3 .taken) refl refl (c .group-behind .ensures)
-
-subs-within-requires : tie.Need-subs-within-requires
-subs-within-requires c κs = search needs
 
 returns-4 : tie.Need-returns-4
 returns-4 c = let n = c .before in let f = n .before in let i = f .before in
@@ -44,13 +26,13 @@ pub group-within-spec : {M : Type 1} → statement M
 group-within-spec =
     tie.close
     (tie.spec
-    bit8-requires
-    bit8-requires-2
+    (λ c κs. search needs)
+    (λ c κs. search needs)
     returns
-    block-empty-requires
+    (λ c κs. search needs)
     returns-2
-    bit8-requires-3
-    group-behind-requires
+    (λ c κs. search needs)
+    (λ c κs. search needs)
     returns-3
-    subs-within-requires
+    (λ c κs. search needs)
     returns-4)

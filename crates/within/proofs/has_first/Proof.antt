@@ -15,18 +15,6 @@ returns-2 c = sym (first-low _ _ _ _ (c .if2 .taken))
 returns-3 : tie.Need-returns-3
 returns-3 c = sym (first-high _ _ _ _ (c .if3 .taken))
 
-octet-or-zero-requires : tie.Need-octet-or-zero-requires
-octet-or-zero-requires c κs = search needs
-
-sub-result : tie.Need-sub-result
-sub-result c = search needs
-
-cast-result : tie.Need-cast-result
-cast-result c = search needs
-
-shr-result : tie.Need-shr-result
-shr-result c = search needs
-
 returns-4 : tie.Need-returns-4
 returns-4 c = rw (c .octet-or-zero .ensures) (sym (first-bit _ _ _ _ (c .before .before .before .if1 .left) (c .before .before .if2 .left) (c .before .if3 .left)))
 
@@ -37,8 +25,8 @@ has-first-spec =
     returns
     returns-2
     returns-3
-    octet-or-zero-requires
-    sub-result
-    cast-result
-    shr-result
+    (λ c κs. search needs)
+    (λ c. search needs)
+    (λ c. search needs)
+    (λ c. search needs)
     returns-4)

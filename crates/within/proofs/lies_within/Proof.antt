@@ -15,15 +15,6 @@ returns : tie.Need-returns
 unfolding allIn
 returns c = let a = c .before .before .before .args in rw (codes-long (a .field) (a .s .now) (a .i) (c .if1 .taken))
 
-sub-field-within : tie.Need-sub-field-within
-sub-field-within c = search needs
-
-part-field-within-start : tie.Need-part-field-within-start
-part-field-within-start c = search needs
-
-part-field-within-end : tie.Need-part-field-within-end
-part-field-within-end c = search needs
-
 field-within-requires : tie.Need-field-within-requires
 field-within-requires c κs = (fits-short _ _ (search needs), fits-short _ _ (search needs))
 
@@ -48,9 +39,9 @@ lies-within-spec =
     tie.close
     (tie.spec
     returns
-    sub-field-within
-    part-field-within-start
-    part-field-within-end
+    (λ c. search needs)
+    (λ c. search needs)
+    (λ c. search needs)
     field-within-requires
     returns-2
     field-within-requires-2

@@ -24,18 +24,6 @@ returns : tie.Need-returns
 unfolding allIn
 returns c = let a = c .before .before .before .args in rw (codes-long (a .field) (a .s .now) (a .i) (c .if1 .taken))
 
-sub-far : tie.Need-sub-far
-sub-far c = search needs
-
-part-far-start : tie.Need-part-far-start
-part-far-start c = search needs
-
-part-far-end : tie.Need-part-far-end
-part-far-end c = search needs
-
-field-fits-requires : tie.Need-field-fits-requires
-field-fits-requires c κs = search needs
-
 field-within-requires : tie.Need-field-within-requires
 field-within-requires c κs = (fits-short _ _ (c .before .before .before .before .before .if1 .left), sym (c .before .field-fits .ensures) ∙ c .if4 .taken)
 
@@ -48,9 +36,6 @@ returns-2 c =
     let p = part (a .t .now) (a .j) in
     within-codes (a .field) _ _ _ _ (o .if1 .left) (sym (rw p at (f .field-fits .ensures)) ∙ n .if4 .taken)
     (within-part _ _ (a .t .now) (a .j) (rw p at (c .field-within .ensures)))
-
-lies-within-requires : tie.Need-lies-within-requires
-lies-within-requires c κs = search needs
 
 returns-3 : tie.Need-returns-3
 returns-3 c =
@@ -69,11 +54,11 @@ lies-within-far-spec =
     tie.close
     (tie.spec
     returns
-    sub-far
-    part-far-start
-    part-far-end
-    field-fits-requires
+    (λ c. search needs)
+    (λ c. search needs)
+    (λ c. search needs)
+    (λ c κs. search needs)
     field-within-requires
     returns-2
-    lies-within-requires
+    (λ c κs. search needs)
     returns-3)

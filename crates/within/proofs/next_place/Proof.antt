@@ -6,12 +6,6 @@ use Rattle.within.proofs.Taking.{place-on, place-end, place-out}
 use Rattle.within.proofs.next_place.Statement.{statement}
 use Rattle.within.proofs.next_place.Tie as tie
 
-shared-slice-read-if2 : tie.Need-shared-slice-read-if2
-shared-slice-read-if2 c = search needs
-
-add-result : tie.Need-add-result
-add-result c = search needs
-
 returns : tie.Need-returns
 returns c = sym (place-on _ _ _ (c .before .before .if1 .taken) (c .if2 .taken))
 
@@ -22,4 +16,4 @@ returns-3 : tie.Need-returns-3
 returns-3 c = sym (place-out _ _ _ (c .if1 .left))
 
 pub next-place-spec : {M : Type 1} → statement M
-next-place-spec = tie.close (tie.spec shared-slice-read-if2 add-result returns returns-2 returns-3)
+next-place-spec = tie.close (tie.spec (λ c. search needs) (λ c. search needs) returns returns-2 returns-3)

@@ -8,27 +8,15 @@ use Rattle.within.proofs.Stepping.{pars-stepped, one-passed, one-both}
 use Rattle.within.proofs.par_within.Statement.{statement}
 use Rattle.within.proofs.par_within.Tie as tie
 
-block-behind-requires : tie.Need-block-behind-requires
-block-behind-requires c κs = search needs
-
-group-behind-requires : tie.Need-group-behind-requires
-group-behind-requires c κs = search needs
-
 returns : tie.Need-returns
 returns c = let z = c .before in let b = z .before .before .before .before in let a = b .args in
     one-passed (pars-stepped (a .s .now) (b .pre .0)) (pars-stepped (a .t .now) (b .pre .1)) (a .pair) (not-true _ (z .before .if1 .taken)) refl refl
     (c .group-behind .ensures ∙ rw (z .block-behind .ensures))
 
-block-within-requires : tie.Need-block-within-requires
-block-within-requires c κs = search needs
-
 returns-2 : tie.Need-returns-2
 returns-2 c = let w = c .before .before in let b = w .before .before .before .before in let a = b .args in
     one-both (pars-stepped (a .s .now) (b .pre .0)) (pars-stepped (a .t .now) (b .pre .1)) (a .pair) (not-false _ (w .before .if1 .left))
     (par-lost _ _ (b .pre .0) (b .pre .1) _ _ (w .block-within .ensures) (not-true _ (c .if2 .taken)))
-
-group-within-requires : tie.Need-group-within-requires
-group-within-requires c κs = search needs
 
 returns-3 : tie.Need-returns-3
 returns-3 c = let n = c .before in let w = n .before .before in let b = w .before .before .before .before in let a = b .args in
@@ -39,10 +27,10 @@ pub par-within-spec : {M : Type 1} → statement M
 par-within-spec =
     tie.close
     (tie.spec
-    block-behind-requires
-    group-behind-requires
+    (λ c κs. search needs)
+    (λ c κs. search needs)
     returns
-    block-within-requires
+    (λ c κs. search needs)
     returns-2
-    group-within-requires
+    (λ c κs. search needs)
     returns-3)

@@ -15,18 +15,12 @@ Inv-loop s e t k pair₀ walk₀ pair walk = Walked (pars s) (pars t) 7 128 s e 
 abbrev μ-loop : tie.MeasureT-loop
 μ-loop s e t k pair₀ walk₀ pair walk = ahead t walk
 
-block-within-requires : tie.Need-block-within-requires Inv-loop μ-loop
-block-within-requires c κs = search needs
-
 loop-holds : tie.Need-loop-holds Inv-loop μ-loop
 loop-holds c = let b = c .before .before .before in walk-start (pars-stepped _ (b .pre .0)) (pars-stepped _ (b .pre .1)) (c .block-within .ensures)
 
 returns : tie.Need-returns Inv-loop μ-loop
 returns c = let n = c .before .before in let i = n .before .before in let l = i .before in let b = l .before .before .before .before in
     walk-end (pars-stepped _ (b .pre .0)) (pars-stepped _ (b .pre .1)) (l .loop .inv) (i .loop-test .taken) (n .if1 .taken) (c .if2 .taken)
-
-next-octets-requires : tie.Need-next-octets-requires Inv-loop μ-loop
-next-octets-requires c κs = search needs
 
 loop-less : tie.Need-loop-less Inv-loop μ-loop
 loop-less c = rw (c .next-octets .ensures) (octets-less 128 _ _ _ (omega arith) (omega arith) (c .before .if2 .left))
@@ -37,9 +31,6 @@ loop-again c = let n = c .before .before .before in let i = n .before .before in
 
 next-bit-requires : tie.Need-next-bit-requires Inv-loop μ-loop
 next-bit-requires c κs = omega (arith, c .if1 .left)
-
-par-within-requires : tie.Need-par-within-requires Inv-loop μ-loop
-par-within-requires c κs = search needs
 
 loop-less-2 : tie.Need-loop-less-2 Inv-loop μ-loop
 loop-less-2 c = let f = c .before in rw (f .next-bit .ensures) (bit-less _ _ (f .before .if1 .left))
@@ -57,14 +48,14 @@ pars-within-spec =
     (tie.spec
     Inv-loop
     μ-loop
-    block-within-requires
+    (λ c κs. search needs)
     loop-holds
     returns
-    next-octets-requires
+    (λ c κs. search needs)
     loop-less
     loop-again
     next-bit-requires
-    par-within-requires
+    (λ c κs. search needs)
     loop-less-2
     loop-again-2
     returns-2)

@@ -6,12 +6,6 @@ use borrow.Author.Needs.{needs}
 use Rattle.within.proofs.passed_over.Statement.{statement}
 use Rattle.within.proofs.passed_over.Tie as tie
 
-block-behind-requires : tie.Need-block-behind-requires
-block-behind-requires c κs = search needs
-
-top-behind-requires : tie.Need-top-behind-requires
-top-behind-requires c κs = search needs
-
 returns : tie.Need-returns
 returns c = (refl, refl, rw (c .before .if1 .taken) (c .block-behind .ensures))
 
@@ -19,4 +13,4 @@ returns-2 : tie.Need-returns-2
 returns-2 c = let b = c .before .before .before in let n : b .args .w ≡ 7 = omega (arith, b .pre, c .before .if1 .left) in (refl, refl, rw n (c .top-behind .ensures))
 
 pub passed-over-spec : {M : Type 1} → statement M
-passed-over-spec = tie.close (tie.spec block-behind-requires top-behind-requires returns returns-2)
+passed-over-spec = tie.close (tie.spec (λ c κs. search needs) (λ c κs. search needs) returns returns-2)

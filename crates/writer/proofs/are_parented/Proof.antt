@@ -34,9 +34,6 @@ mul-code c = omega arith
 shared-slice-read-code : tie.Need-shared-slice-read-code Inv-loop μ-loop
 shared-slice-read-code c = omega arith
 
-stands-under-requires : tie.Need-stands-under-requires Inv-loop μ-loop
-stands-under-requires c κs = search needs
-
 returns : tie.Need-returns Inv-loop μ-loop
 returns c = let p = c .before in parenting-fails (here (p .before .before)) (sym (p .stands-under .ensures) ∙ not-true _ (c .if1 .taken))
 
@@ -63,4 +60,4 @@ returns-2 : tie.Need-returns-2 Inv-loop μ-loop
 returns-2 c = let l = c .before in parenting-end (rw (drop-of-length-le (l .before .before .args .list .now) {i = l .loop .i} (c .loop-test .left)) at (l .loop .inv))
 
 pub are-parented-spec : {M : Type 1} → statement M
-are-parented-spec = tie.close (tie.spec Inv-loop μ-loop loop-holds mul-code shared-slice-read-code stands-under-requires returns add-i loop-less loop-again returns-2)
+are-parented-spec = tie.close (tie.spec Inv-loop μ-loop loop-holds mul-code shared-slice-read-code (λ c κs. search needs) returns add-i loop-less loop-again returns-2)

@@ -26,9 +26,6 @@ mul-is-shaped c = omega arith
 shared-slice-read-is-shaped : tie.Need-shared-slice-read-is-shaped Inv-loop μ-loop
 shared-slice-read-is-shaped c = omega arith
 
-is-shaped-requires : tie.Need-is-shaped-requires Inv-loop μ-loop
-is-shaped-requires c κs = search needs
-
 returns : tie.Need-returns Inv-loop μ-loop
 unfolding allShaped
 returns c = let p = c .before in let l = p .before .before .before in
@@ -52,4 +49,4 @@ unfolding allShaped
 returns-2 c = let l = c .before in rw (drop-of-length-le (l .before .before .args .list .now) {i = l .loop .i} (c .loop-test .left)) at (l .loop .inv)
 
 pub are-shaped-spec : {M : Type 1} → statement M
-are-shaped-spec = tie.close (tie.spec Inv-loop μ-loop loop-holds mul-is-shaped shared-slice-read-is-shaped is-shaped-requires returns add-i loop-less loop-again returns-2)
+are-shaped-spec = tie.close (tie.spec Inv-loop μ-loop loop-holds mul-is-shaped shared-slice-read-is-shaped (λ c κs. search needs) returns add-i loop-less loop-again returns-2)

@@ -8,14 +8,8 @@ use Rattle.writer.proofs.ends_par.Tie as tie
 returns : tie.Need-returns
 returns c = let a = c .before .args in ends-there (a .list .now) (a .i) (c .if1 .taken)
 
-mul-result : tie.Need-mul-result
-mul-result c = search needs
-
-shared-slice-read-result : tie.Need-shared-slice-read-result
-shared-slice-read-result c = search needs
-
 returns-2 : tie.Need-returns-2
 returns-2 c = let e = c .before in let a = e .before .args in ends-before (a .list .now) (a .i) (e .if1 .left)
 
 pub ends-par-spec : {M : Type 1} → statement M
-ends-par-spec = tie.close (tie.spec returns mul-result shared-slice-read-result returns-2)
+ends-par-spec = tie.close (tie.spec returns (λ c. search needs) (λ c. search needs) returns-2)

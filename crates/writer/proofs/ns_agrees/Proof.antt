@@ -9,19 +9,10 @@ use Rattle.writer.proofs.Parents.{empty-none, empty-some}
 use Rattle.writer.proofs.ns_agrees.Statement.{statement}
 use Rattle.writer.proofs.ns_agrees.Tie as tie
 
-contains-requires : tie.Need-contains-requires
-contains-requires c κs = search needs
-
 returns : tie.Need-returns
 unfolding nsAgrees
 returns c = let s = c .before .before .before .before in
     rw (empty-none (s .args .ns .now) (c .if1 .taken)) (ap not (c .before .contains .ensures))
-
-ns-form-requires : tie.Need-ns-form-requires
-ns-form-requires c κs = search needs
-
-is-fine-requires : tie.Need-is-fine-requires
-is-fine-requires c κs = search needs
 
 returns-2 : tie.Need-returns-2
 unfolding nsAgrees
@@ -36,4 +27,4 @@ returns-3 c = let q = c .before in let n = q .before in let e = n .before in let
     rw (empty-some (s .args .ns .now) (e .if1 .left), fine)
 
 pub ns-agrees-spec : {M : Type 1} → statement M
-ns-agrees-spec = tie.close (tie.spec contains-requires returns ns-form-requires is-fine-requires returns-2 returns-3)
+ns-agrees-spec = tie.close (tie.spec (λ c κs. search needs) returns (λ c κs. search needs) (λ c κs. search needs) returns-2 returns-3)

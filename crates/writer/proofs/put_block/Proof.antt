@@ -61,12 +61,6 @@ loop-less-2 c = omega arith
 loop-again-2 : tie.Need-loop-again-2 Inv-loop μ-loop
 loop-again-2 c = let l = c .before .before .before in blocking-miss (l .loop .inv) (c .before .before .loop-test .taken) (c .if1 .left)
 
-cast-put-octet : tie.Need-cast-put-octet Inv-loop μ-loop
-cast-put-octet c = search needs
-
-shl-put-octet : tie.Need-shl-put-octet Inv-loop μ-loop
-shl-put-octet c = search needs
-
 add-put-octet : tie.Need-add-put-octet Inv-loop μ-loop
 add-put-octet c = let l = c .before .before .before in let s = l .before .before .before in
     omega (arith, blocking-fits (l .loop .inv) refl (s .pre .4))
@@ -82,4 +76,4 @@ returns c = let p = c .before .before in let e = p .before .before .before in le
     blocking-end (e .before .loop .inv) (e .loop-test .left) (rw (delimiter (s .args .w) (s .pre .4)) at (p .put-octet .ensures))
 
 pub put-block-spec : {M : Type 1} → statement M
-put-block-spec = tie.close (tie.spec Inv-loop μ-loop loop-holds mul-apart shared-slice-read-apart sub-apart add-i rem-if1 div-put-position put-position-requires loop-less loop-again loop-less-2 loop-again-2 cast-put-octet shl-put-octet add-put-octet put-octet-requires same-length returns)
+put-block-spec = tie.close (tie.spec Inv-loop μ-loop loop-holds mul-apart shared-slice-read-apart sub-apart add-i rem-if1 div-put-position put-position-requires loop-less loop-again loop-less-2 loop-again-2 (λ c. search needs) (λ c. search needs) add-put-octet put-octet-requires same-length returns)

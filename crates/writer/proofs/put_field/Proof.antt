@@ -7,33 +7,6 @@ use Rattle.writer.proofs.Putting.{puts-most, between-wider, between-fro
 use Rattle.writer.proofs.put_field.Statement.{statement}
 use Rattle.writer.proofs.put_field.Tie as tie
 
-add-run-length : tie.Need-add-run-length
-add-run-length c = search needs
-
-run-length-requires : tie.Need-run-length-requires
-run-length-requires c κs = search needs
-
-mul-rest : tie.Need-mul-rest
-mul-rest c = search needs
-
-sub-rest : tie.Need-sub-rest
-sub-rest c = search needs
-
-part-rest-start : tie.Need-part-rest-start
-part-rest-start c = search needs
-
-part-rest-end : tie.Need-part-rest-end
-part-rest-end c = search needs
-
-sub-put-block : tie.Need-sub-put-block
-sub-put-block c = search needs
-
-part-put-block-start : tie.Need-part-put-block-start
-part-put-block-start c = search needs
-
-part-put-block-end : tie.Need-part-put-block-end
-part-put-block-end c = search needs
-
 put-block-requires : tie.Need-put-block-requires
 put-block-requires c κs = let r = c .before .before .before in let s = r .before .before .before in
     (between-front _ _ _ (r .run-length .ensures .0) (s .pre .0), omega arith, omega (arith, s .pre .1), omega arith, omega arith, s .pre .2, s .pre .3)
@@ -46,12 +19,9 @@ put-pars-requires : tie.Need-put-pars-requires
 put-pars-requires c κs = let q = c .before .before .before in let r = q .before .before .before .before .before .before .before .before in let s = r .before .before .before in
     (between-wider (omega arith) (omega (arith, s .pre .1)) (between-behind _ _ _ (omega arith) (r .run-length .ensures .0) (s .pre .0)), q .put-block2 .ensures .size, puts-most (q .put-block2 .ensures))
 
-same-length : tie.Need-same-length
-same-length c = search needs
-
 returns : tie.Need-returns
 returns c = let t = c .before .before in let q = t .before .before .before .before in let p = q .before .before .before .before in let r = p .before .before .before .before in let s = r .before .before .before in
     field-puts (s .args .base) _ (s .args .list .now) (r .run-length .ensures .0) (p .put-block .ensures) (q .put-block2 .ensures) (t .put-pars .ensures)
 
 pub put-field-spec : {M : Type 1} → statement M
-put-field-spec = tie.close (tie.spec add-run-length run-length-requires mul-rest sub-rest part-rest-start part-rest-end sub-put-block part-put-block-start part-put-block-end put-block-requires put-block-requires-2 put-pars-requires same-length returns)
+put-field-spec = tie.close (tie.spec (λ c. search needs) (λ c κs. search needs) (λ c. search needs) (λ c. search needs) (λ c. search needs) (λ c. search needs) (λ c. search needs) (λ c. search needs) (λ c. search needs) put-block-requires put-block-requires-2 put-pars-requires (λ c. search needs) returns)

@@ -15,31 +15,13 @@ returns : tie.Need-returns
 returns c = let s = c .before .before .before in
     rw (ne-eqb _ _ (c .if1 .taken)) (puts-none (s .args .out .now) (s .args .start) (s .pre .2) (s .pre .3))
 
-add-run-length : tie.Need-add-run-length
-add-run-length c = search needs
-
-run-length-requires : tie.Need-run-length-requires
-run-length-requires c κs = search needs
-
 returns-2 : tie.Need-returns-2
 returns-2 c = let r = c .before in let e = r .before in let s = e .before .before .before in
     rw (eq-eqb _ _ (e .if1 .left), empty-none _ (sym (r .run-length .ensures .0) ∙ c .if2 .taken)) (puts-none (s .args .out .now) (s .args .start) (s .pre .2) (s .pre .3))
 
-sub-put-block : tie.Need-sub-put-block
-sub-put-block c = search needs
-
-part-put-block-start : tie.Need-part-put-block-start
-part-put-block-start c = search needs
-
-part-put-block-end : tie.Need-part-put-block-end
-part-put-block-end c = search needs
-
 put-block-requires : tie.Need-put-block-requires
 put-block-requires c κs = let r = c .before .before .before in let s = r .before .before .before .before in
     (between-front _ _ _ (r .run-length .ensures .0) (s .pre .0), omega arith, omega (arith, s .pre .1), omega arith, omega arith, s .pre .2, s .pre .3)
-
-same-length : tie.Need-same-length
-same-length c = search needs
 
 returns-3 : tie.Need-returns-3
 returns-3 c = let p = c .before .before in let f = p .before .before .before in let r = f .before in let e = r .before in let a = e .before .before .before .args in
@@ -47,4 +29,4 @@ returns-3 c = let p = c .before .before in let f = p .before .before .before in 
     rw (eq-eqb _ _ (e .if1 .left), empty-some _ (λ z. f .if2 .left (n ∙ z))) (rw (slice-run (a .head + ofS) _ (a .list .now) n) at (p .put-block .ensures))
 
 pub put-lower-spec : {M : Type 1} → statement M
-put-lower-spec = tie.close (tie.spec returns add-run-length run-length-requires returns-2 sub-put-block part-put-block-start part-put-block-end put-block-requires same-length returns-3)
+put-lower-spec = tie.close (tie.spec returns (λ c. search needs) (λ c κs. search needs) returns-2 (λ c. search needs) (λ c. search needs) (λ c. search needs) put-block-requires (λ c. search needs) returns-3)

@@ -20,35 +20,14 @@ joined c = let p = c .before .before in let a = p .before .before .before .befor
     (λ w. message-short (a .kind) (a .revision) (a .list .now) (a .ns .now) (p .put-octet .ensures) (w .0 .left) (w .1) (w .2))
     (c .if1 .came)
 
-slice-aggregate-put-octet : tie.Need-slice-aggregate-put-octet
-slice-aggregate-put-octet c = search needs
-
-mul-put-octet : tie.Need-mul-put-octet
-mul-put-octet c = search needs
-
 add-put-octet : tie.Need-add-put-octet
 add-put-octet c = let s = c .before .before .before .before in omega (arith, known-most (s .args .kind) (s .pre .1))
-
-put-octet-requires : tie.Need-put-octet-requires
-put-octet-requires c κs = search needs
-
-slice-aggregate-put-fields : tie.Need-slice-aggregate-put-fields
-slice-aggregate-put-fields c = search needs
-
-put-fields-requires : tie.Need-put-fields-requires
-put-fields-requires c κs = search needs
 
 returns : tie.Need-returns
 returns c = message-long (joined (c .before)) (c .if2 .taken)
 
 slice-aggregate-copy-front : tie.Need-slice-aggregate-copy-front
 slice-aggregate-copy-front c = omega (arith, joined (c .before .before) .size)
-
-copy-front-requires : tie.Need-copy-front-requires
-copy-front-requires c κs = search needs
-
-same-length : tie.Need-same-length
-same-length c = search needs
 
 returns-2 : tie.Need-returns-2
 returns-2 c = let p = c .before .before in let e = p .before .before .before in let j = e .before in let s = j .before .before .before .before .before .before .before in
@@ -57,4 +36,4 @@ returns-2 c = let p = c .before .before in let e = p .before .before .before in 
 pub put-message-spec : {M : Type 1} → statement M
 put-message-spec =
     tie.close
-    (tie.spec slice-aggregate-put-octet mul-put-octet add-put-octet put-octet-requires slice-aggregate-put-fields put-fields-requires returns slice-aggregate-copy-front copy-front-requires same-length returns-2)
+    (tie.spec (λ c. search needs) (λ c. search needs) add-put-octet (λ c κs. search needs) (λ c. search needs) (λ c κs. search needs) returns slice-aggregate-copy-front (λ c κs. search needs) (λ c. search needs) returns-2)

@@ -5,15 +5,6 @@ use Rattle.writer.proofs.Putting.{puts-octet, puts-over}
 use Rattle.writer.proofs.put_octet.Statement.{statement}
 use Rattle.writer.proofs.put_octet.Tie as tie
 
-slice-write-out : tie.Need-slice-write-out
-slice-write-out c = search needs
-
-add-result : tie.Need-add-result
-add-result c = search needs
-
-same-length : tie.Need-same-length
-same-length c = search needs
-
 returns : tie.Need-returns
 returns c = puts-octet _ _ _ (c .before .pre .0) (c .if1 .taken)
 
@@ -21,4 +12,4 @@ returns-2 : tie.Need-returns-2
 returns-2 c = puts-over _ _ _ (c .before .pre .0) (c .if1 .left)
 
 pub put-octet-spec : {M : Type 1} → statement M
-put-octet-spec = tie.close (tie.spec slice-write-out add-result same-length returns returns-2)
+put-octet-spec = tie.close (tie.spec (λ c. search needs) (λ c. search needs) (λ c. search needs) returns returns-2)

@@ -42,9 +42,6 @@ part-rest-end c = omega arith
 add-run-length : tie.Need-add-run-length Inv-loop μ-loop
 add-run-length c = omega (arith, parting-head (c .before .before .before .loop .inv) (c .before .before .loop-test .taken))
 
-run-length-requires : tie.Need-run-length-requires Inv-loop μ-loop
-run-length-requires c κs = search needs
-
 sub-put-block : tie.Need-sub-put-block Inv-loop μ-loop
 sub-put-block c = omega arith
 
@@ -84,12 +81,6 @@ put-lower-requires c κs = let p = c .before .before .before .before in let r = 
     let x = t .before .loop .inv in let h = t .loop-test .taken in
     (parting-behind x h (r .run-length .ensures .0), parting-head x h, p .put-block .ensures .size, puts-most (p .put-block .ensures))
 
-ends-par-requires : tie.Need-ends-par-requires Inv-loop μ-loop
-ends-par-requires c κs = search needs
-
-mark-last-requires : tie.Need-mark-last-requires Inv-loop μ-loop
-mark-last-requires c κs = search needs
-
 loop-less : tie.Need-loop-less Inv-loop μ-loop
 loop-less c = omega arith
 
@@ -114,4 +105,4 @@ returns : tie.Need-returns Inv-loop μ-loop
 returns c = parting-end (c .before .loop .inv) (c .loop-test .left)
 
 pub put-pars-spec : {M : Type 1} → statement M
-put-pars-spec = tie.close (tie.spec Inv-loop μ-loop loop-holds mul-head shared-slice-read-head add-rest mul-rest sub-rest part-rest-start part-rest-end add-run-length run-length-requires sub-put-block part-put-block-start part-put-block-end put-block-requires add-i add-i-2 mul-put-lower sub-put-lower part-put-lower-start part-put-lower-end put-lower-requires ends-par-requires mark-last-requires loop-less loop-again loop-less-2 loop-again-2 same-length returns)
+put-pars-spec = tie.close (tie.spec Inv-loop μ-loop loop-holds mul-head shared-slice-read-head add-rest mul-rest sub-rest part-rest-start part-rest-end add-run-length (λ c κs. search needs) sub-put-block part-put-block-start part-put-block-end put-block-requires add-i add-i-2 mul-put-lower sub-put-lower part-put-lower-start part-put-lower-end put-lower-requires (λ c κs. search needs) (λ c κs. search needs) loop-less loop-again loop-less-2 loop-again-2 same-length returns)

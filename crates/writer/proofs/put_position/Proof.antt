@@ -21,18 +21,6 @@ none c = div-eq-of-lt (c .if1 .taken)
 near : (c : tie.Then1) → let a = c .before .before .before .args in (a .q - a .hand .above - 1) % a .w ≡ a .q - a .hand .above - 1
 near c = mod-eq-of-lt (c .if1 .taken)
 
-sub-ahead : tie.Need-sub-ahead
-sub-ahead c = search needs
-
-sub-ahead-2 : tie.Need-sub-ahead-2
-sub-ahead-2 c = search needs
-
-cast-t9 : tie.Need-cast-t9
-cast-t9 c = search needs
-
-shl-t10 : tie.Need-shl-t10
-shl-t10 c = search needs
-
 add-t11 : tie.Need-add-t11
 add-t11 c = let t = c .before in let s = t .before .before .before in let a = s .args in let b = bit-of s in
     let kept = rw (near t) at (b .kept) in
@@ -44,15 +32,9 @@ returns c = let t = c .before in let s = t .before .before .before in
     let kept = rw (near t) at (bit-of s .kept) in
     rw (none t, near t) (puts-none _ _ (s .pre .0) (s .pre .1), omega arith, omega (arith, kept))
 
-div-pass-octets : tie.Need-div-pass-octets
-div-pass-octets c = search needs
-
 pass-octets-requires : tie.Need-pass-octets-requires
 pass-octets-requires c κs = let s = c .before .before .before .before in let a = s .args in
     (s .pre .0, s .pre .1, omega (arith, div-mul-le-self (a .q - a .hand .above - 1) (a .w)))
-
-rem-t7 : tie.Need-rem-t7
-rem-t7 c = search needs
 
 cast-t14 : tie.Need-cast-t14
 cast-t14 c = omega (arith, bit-of (c .before .before .before .before .before .before .before) .few)
@@ -64,9 +46,6 @@ add-t16 : tie.Need-add-t16
 add-t16 c = let p = c .before .before .before in let s = p .before .before .before .before .before in let a = s .args in let b = bit-of s in
     omega (arith, p .pass-octets .ensures .1, pow-mono {i = (a .q - a .hand .above - 1) % a .w + 1} {j = 7} (omega arith))
 
-same-length : tie.Need-same-length
-same-length c = search needs
-
 returns-2 : tie.Need-returns-2
 returns-2 c = let p = c .before .before .before in let e = p .pass-octets .ensures in
     (e .0, e .2, omega (arith, e .1, bit-of (p .before .before .before .before .before) .kept))
@@ -75,17 +54,17 @@ pub put-position-spec : {M : Type 1} → statement M
 put-position-spec =
     tie.close
     (tie.spec
-    sub-ahead
-    sub-ahead-2
-    cast-t9
-    shl-t10
+    (λ c. search needs)
+    (λ c. search needs)
+    (λ c. search needs)
+    (λ c. search needs)
     add-t11
     returns
-    div-pass-octets
+    (λ c. search needs)
     pass-octets-requires
-    rem-t7
+    (λ c. search needs)
     cast-t14
     shl-t15
     add-t16
-    same-length
+    (λ c. search needs)
     returns-2)

@@ -16,15 +16,9 @@ shaped-known c = sym (c .before .are-shaped .ensures) ∙ not-false _ (c .if1 .l
 ascending-known : (c : tie.Else2) → ascending (c .before .before .before .before .before .before .before .args .list .now) ≡ true
 ascending-known c = sym (c .before .is-ascending .ensures) ∙ not-false _ (c .if2 .left)
 
-are-shaped-requires : tie.Need-are-shaped-requires
-are-shaped-requires c κs = search needs
-
 returns : tie.Need-returns
 unfolding listWriting
 returns c = rw (sym (c .before .are-shaped .ensures) ∙ not-true _ (c .if1 .taken)) (record { reply = refl; output = refl })
-
-is-ascending-requires : tie.Need-is-ascending-requires
-is-ascending-requires c κs = search needs
 
 returns-2 : tie.Need-returns-2
 unfolding listWriting
@@ -43,9 +37,6 @@ write-checked-requires : tie.Need-write-checked-requires
 write-checked-requires c κs = let g = c .before in let n = g .before in let f = n .before in let e = f .before .before in let s = e .before .before .before .before .before in
     (s .pre .0, s .pre .1, shaped-known e, ascending-known f, sym (n .are-parented .ensures) ∙ not-false _ (g .if3 .left), s .pre .2)
 
-same-length : tie.Need-same-length
-same-length c = search needs
-
 returns-4 : tie.Need-returns-4
 unfolding listWriting
 returns-4 c = let p = c .before .before in let g = p .before .before in let n = g .before in let f = n .before in
@@ -53,4 +44,4 @@ returns-4 c = let p = c .before .before in let g = p .before .before in let n = 
 
 pub write-list-spec : {M : Type 1} → statement M
 write-list-spec =
-    tie.close (tie.spec are-shaped-requires returns is-ascending-requires returns-2 are-parented-requires returns-3 write-checked-requires same-length returns-4)
+    tie.close (tie.spec (λ c κs. search needs) returns (λ c κs. search needs) returns-2 are-parented-requires returns-3 write-checked-requires (λ c. search needs) returns-4)

@@ -11,9 +11,6 @@ returns : tie.Need-returns
 unfolding writeMessage
 returns c = rw (lt-ltb _ _ (c .if1 .taken)) (record { reply = refl; output = refl })
 
-is-known-requires : tie.Need-is-known-requires
-is-known-requires c κs = search needs
-
 returns-2 : tie.Need-returns-2
 unfolding writeMessage
 returns-2 c = let n = c .before in
@@ -28,13 +25,10 @@ write-list-requires : tie.Need-write-list-requires
 write-list-requires c κs = let g = c .before in let f = g .before in let n = f .before in
     (g .if3 .left, sym (n .is-known .ensures) ∙ not-false _ (f .if2 .left), n .before .if1 .left)
 
-same-length : tie.Need-same-length
-same-length c = search needs
-
 returns-4 : tie.Need-returns-4
 unfolding writeMessage
 returns-4 c = let p = c .before .before in let g = p .before .before in let f = g .before in let n = f .before in
     rw (le-ltb _ _ (n .before .if1 .left), sym (n .is-known .ensures) ∙ not-false _ (f .if2 .left), le-ltb _ _ (g .if3 .left)) (p .write-list .ensures)
 
 pub write-message-spec : {M : Type 1} → statement M
-write-message-spec = tie.close (tie.spec returns is-known-requires returns-2 returns-3 write-list-requires same-length returns-4)
+write-message-spec = tie.close (tie.spec returns (λ c κs. search needs) returns-2 returns-3 write-list-requires (λ c. search needs) returns-4)

@@ -25,21 +25,6 @@ accepted c says e =
     let q = p .store-field in
     did-of-any _ (storedMode (p .before .before .before .before .before .args .field .now)) e refl (q .ensures .0) (q .ensures .1) says
 
-store-field-requires : tie.Need-store-field-requires
-store-field-requires c κs = search needs
-
-says-requires : tie.Need-says-requires
-says-requires c κs = search needs
-
-send-octet-requires : tie.Need-send-octet-requires
-send-octet-requires c κs = search needs
-
-same-length : tie.Need-same-length
-same-length c = search needs
-
-same-length-2 : tie.Need-same-length-2
-same-length-2 c = search needs
-
 returns : tie.Need-returns
 unfolding asksAck
 returns c =
@@ -47,12 +32,6 @@ returns c =
     let t = p .before .before in
     let w = t .before in
     accepted w (p .send-octet .ensures) (accepts-asked _ _ (sym (w .says .ensures) ∙ t .if1 .taken))
-
-answer-requires : tie.Need-answer-requires
-answer-requires c κs = search needs
-
-same-length-3 : tie.Need-same-length-3
-same-length-3 c = search needs
 
 returns-2 : tie.Need-returns-2
 unfolding asksAck
@@ -65,12 +44,12 @@ pub accept-mode-spec : {M : Type 1} → statement M
 accept-mode-spec =
     tie.close
     (tie.spec
-    store-field-requires
-    says-requires
-    send-octet-requires
-    same-length
-    same-length-2
+    (λ c κs. search needs)
+    (λ c κs. search needs)
+    (λ c κs. search needs)
+    (λ c. search needs)
+    (λ c. search needs)
     returns
-    answer-requires
-    same-length-3
+    (λ c κs. search needs)
+    (λ c. search needs)
     returns-2)

@@ -5,15 +5,9 @@ use borrow.Author.Needs.{needs}
 use Rattle.station.proofs.acts.far_offer.Statement.{statement}
 use Rattle.station.proofs.acts.far_offer.Tie as tie
 
-says-requires : tie.Need-says-requires
-says-requires c κs = search needs
-
-says-requires-2 : tie.Need-says-requires-2
-says-requires-2 c κs = search needs
-
 returns : tie.Need-returns
 unfolding farOffer
 returns c = rw (c .before .says .ensures, c .says2 .ensures)
 
 pub far-offer-spec : {M : Type 1} → statement M
-far-offer-spec = tie.close (tie.spec says-requires says-requires-2 returns)
+far-offer-spec = tie.close (tie.spec (λ c κs. search needs) (λ c κs. search needs) returns)

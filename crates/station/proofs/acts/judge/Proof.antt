@@ -20,41 +20,11 @@ decided : (c : tie.After-judge-mode) (x : Verdict) → c .judge-mode .result ≡
     → let a = c .before .before .before .before .before .args in verdict (codesIn Standard (a .field .now) (standardAt (a .field .now))) (wishesOf (a .wishes .now)) ≡ nakOf x
 decided c x q = let s = c .before .before .before .before .before in verdict-there (s .args .field .now) (s .args .wishes .now) (s .pre .0 .place) (c .judge-mode .ensures) (ap nakOf q)
 
-judge-mode-requires : tie.Need-judge-mode-requires
-judge-mode-requires c κs = search needs
-
-enum-told : tie.Need-enum-told
-enum-told c = search needs
-
-accept-mode-requires : tie.Need-accept-mode-requires
-accept-mode-requires c κs = search needs
-
-enum-told-2 : tie.Need-enum-told-2
-enum-told-2 c = search needs
-
-send-octet-requires : tie.Need-send-octet-requires
-send-octet-requires c κs = search needs
-
-enum-told-3 : tie.Need-enum-told-3
-enum-told-3 c = search needs
-
-send-octet-requires-2 : tie.Need-send-octet-requires-2
-send-octet-requires-2 c κs = search needs
-
-same-length : tie.Need-same-length
-same-length c = search needs
-
-same-length-2 : tie.Need-same-length-2
-same-length-2 c = search needs
-
 returns : tie.Need-returns
 returns c =
     let p = c .before .before .before .before in
     let e = p .before .before .before in
     rw (decided (e .before .before) _ (e .enum-told .given .1)) (p .accept-mode .ensures)
-
-same-length-3 : tie.Need-same-length-3
-same-length-3 c = search needs
 
 returns-2 : tie.Need-returns-2
 unfolding messageOctets
@@ -62,9 +32,6 @@ returns-2 c =
     let p = c .before .before in
     let e = p .before .before in
     rw (decided (e .before .before) _ (e .enum-told2 .given .1)) (did-of-any _ [] refl refl refl (sym (put-nil _)) (p .send-octet .ensures))
-
-same-length-4 : tie.Need-same-length-4
-same-length-4 c = search needs
 
 returns-3 : tie.Need-returns-3
 unfolding messageOctets
@@ -77,17 +44,17 @@ pub judge-spec : {M : Type 1} → statement M
 judge-spec =
     tie.close
     (tie.spec
-    judge-mode-requires
-    enum-told
-    accept-mode-requires
-    enum-told-2
-    send-octet-requires
-    enum-told-3
-    send-octet-requires-2
-    same-length
-    same-length-2
+    (λ c κs. search needs)
+    (λ c. search needs)
+    (λ c κs. search needs)
+    (λ c. search needs)
+    (λ c κs. search needs)
+    (λ c. search needs)
+    (λ c κs. search needs)
+    (λ c. search needs)
+    (λ c. search needs)
     returns
-    same-length-3
+    (λ c. search needs)
     returns-2
-    same-length-4
+    (λ c. search needs)
     returns-3)

@@ -10,16 +10,10 @@ use Rattle.station.proofs.Sendings.{said-same, choice-lies}
 use Rattle.station.proofs.acts.propose_first.Statement.{statement}
 use Rattle.station.proofs.acts.propose_first.Tie as tie
 
-first-ready-requires : tie.Need-first-ready-requires
-first-ready-requires c κs = search needs
-
 propose-requires : tie.Need-propose-requires
 propose-requires c κs =
     let s = c .before .before .before .before in
     (choice-lies [] unheard (s .args .wishes .now) (c .before .first-ready .result) (s .pre .0) (c .before .first-ready .ensures), s .pre .1)
-
-same-length : tie.Need-same-length
-same-length c = search needs
 
 returns : tie.Need-returns
 returns c =
@@ -29,4 +23,4 @@ returns c =
     said-same (λ x. proposes x (a .settings) noOffer (a .wishes .now) [] (a .time)) (sym (b .before .before .first-ready .ensures)) (b .propose .ensures [] refl)
 
 pub propose-first-spec : {M : Type 1} → statement M
-propose-first-spec = tie.close (tie.spec first-ready-requires propose-requires same-length returns)
+propose-first-spec = tie.close (tie.spec (λ c κs. search needs) propose-requires (λ c. search needs) returns)

@@ -7,18 +7,6 @@ use Rattle.station.proofs.Saying.{did-bare}
 use Rattle.station.proofs.acts.sorted_step.Statement.{statement}
 use Rattle.station.proofs.acts.sorted_step.Tie as tie
 
-hear-requires : tie.Need-hear-requires
-hear-requires c κs = search needs
-
-enum-known-heard : tie.Need-enum-known-heard
-enum-known-heard c = search needs
-
-carried-by-requires : tie.Need-carried-by-requires
-carried-by-requires c κs = search needs
-
-act-of-requires : tie.Need-act-of-requires
-act-of-requires c κs = search needs
-
 perform-requires : tie.Need-perform-requires
 perform-requires c κs =
     let a = c .before .before in
@@ -28,18 +16,6 @@ perform-requires c κs =
     let e = rw (h .heard .given .1) at (h .before .before .hear .ensures) in
     let n = needs-standing (k .carried-by .result .kind) (s .args .call .settings) (k .carried-by .result .ack) (h .heard .given .0 .0) _ (a .act-of .ensures) (e .1) in
     (n, s .pre .0, s .pre .1, search needs, search needs)
-
-enum-told : tie.Need-enum-told
-enum-told c = search needs
-
-silent-requires : tie.Need-silent-requires
-silent-requires c κs = search needs
-
-same-length : tie.Need-same-length
-same-length c = search needs
-
-same-length-2 : tie.Need-same-length-2
-same-length-2 c = search needs
 
 returns : tie.Need-returns
 returns c =
@@ -58,14 +34,14 @@ pub sorted-step-spec : {M : Type 1} → statement M
 sorted-step-spec =
     tie.close
     (tie.spec
-    hear-requires
-    enum-known-heard
-    carried-by-requires
-    act-of-requires
+    (λ c κs. search needs)
+    (λ c. search needs)
+    (λ c κs. search needs)
+    (λ c κs. search needs)
     perform-requires
-    enum-told
-    silent-requires
-    same-length
-    same-length-2
+    (λ c. search needs)
+    (λ c κs. search needs)
+    (λ c. search needs)
+    (λ c. search needs)
     returns
     returns-2)

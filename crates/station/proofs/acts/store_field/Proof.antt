@@ -5,14 +5,8 @@ use Rattle.station.proofs.FarSide.{stores-kept}
 use Rattle.station.proofs.acts.store_field.Statement.{statement}
 use Rattle.station.proofs.acts.store_field.Tie as tie
 
-rewrite-field-requires : tie.Need-rewrite-field-requires
-rewrite-field-requires c κs = search needs
-
-same-length : tie.Need-same-length
-same-length c = search needs
-
 returns : tie.Need-returns
 returns c = let p = c .before .before in let s = p .before .before .before .before in stores-kept (s .pre .0) (s .pre .1) (p .rewrite-field .ensures)
 
 pub store-field-spec : {M : Type 1} → statement M
-store-field-spec = tie.close (tie.spec rewrite-field-requires same-length returns)
+store-field-spec = tie.close (tie.spec (λ c κs. search needs) (λ c. search needs) returns)

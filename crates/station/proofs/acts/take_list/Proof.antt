@@ -30,53 +30,17 @@ taken c says e =
     let q = c .before .before .before .store-field in
     did-of-any _ (storedList (a .field .now)) e (takes-stores (a .taken .settings) (a .own .now) (a .wishes .now) (a .field .now) (a .taken .time) (a .taken .after)) (q .ensures .0) (q .ensures .1) says
 
-store-field-requires : tie.Need-store-field-requires
-store-field-requires c κs = search needs
-
-far-offer-requires : tie.Need-far-offer-requires
-far-offer-requires c κs = search needs
-
-enum-told : tie.Need-enum-told
-enum-told c = search needs
-
-first-common-requires : tie.Need-first-common-requires
-first-common-requires c κs = search needs
-
 propose-requires : tie.Need-propose-requires
 propose-requires c κs =
     let f = c .before in
     let s = start (f .before .before .before) in
     (choice-lies _ _ _ (f .first-common .result) (s .pre .2) (f .first-common .ensures), omega arith)
 
-enum-told-2 : tie.Need-enum-told-2
-enum-told-2 c = search needs
-
-first-common-requires-2 : tie.Need-first-common-requires-2
-first-common-requires-2 c κs = search needs
-
 propose-behind-requires : tie.Need-propose-behind-requires
 propose-behind-requires c κs =
     let f = c .before in
     let s = start (f .before .before .before) in
     (choice-lies _ _ _ (f .first-common2 .result) (s .pre .2) (f .first-common2 .ensures), s .pre .1, omega arith)
-
-enum-told-3 : tie.Need-enum-told-3
-enum-told-3 c = search needs
-
-send-list-requires : tie.Need-send-list-requires
-send-list-requires c κs = search needs
-
-enum-told-4 : tie.Need-enum-told-4
-enum-told-4 c = search needs
-
-answer-requires : tie.Need-answer-requires
-answer-requires c κs = search needs
-
-same-length : tie.Need-same-length
-same-length c = search needs
-
-same-length-2 : tie.Need-same-length-2
-same-length-2 c = search needs
 
 returns : tie.Need-returns
 returns c =
@@ -86,12 +50,6 @@ returns c =
     let o = e .before .before in
     let s = start o in
     taken o (p .propose .ensures) (takes-ms _ _ _ _ _ (s .pre .0) (s .pre .2) (f .first-common .ensures) (o .far-offer .ensures) (e .enum-told .given .1))
-
-same-length-3 : tie.Need-same-length-3
-same-length-3 c = search needs
-
-same-length-4 : tie.Need-same-length-4
-same-length-4 c = search needs
 
 returns-2 : tie.Need-returns-2
 returns-2 c =
@@ -103,20 +61,11 @@ returns-2 c =
     taken o (p .propose-behind .ensures)
     (takes-cl-ms _ _ _ _ _ (s .pre .0) (s .pre .2) (f .first-common2 .ensures) (o .far-offer .ensures) (e .enum-told2 .given .1))
 
-same-length-5 : tie.Need-same-length-5
-same-length-5 c = search needs
-
-same-length-6 : tie.Need-same-length-6
-same-length-6 c = search needs
-
 returns-3 : tie.Need-returns-3
 returns-3 c =
     let p = c .before .before in
     let e = p .before .before in
     taken (e .before .before) (p .send-list .ensures) (takes-cl _ _ _ _ _ (e .enum-told3 .given .1))
-
-same-length-7 : tie.Need-same-length-7
-same-length-7 c = search needs
 
 returns-4 : tie.Need-returns-4
 returns-4 c = let e = c .before in taken (e .before .before) (says-silent (c .answer .ensures)) (takes-half _ _ _ _ _ (e .enum-told4 .given .1))
@@ -125,26 +74,26 @@ pub take-list-spec : {M : Type 1} → statement M
 take-list-spec =
     tie.close
     (tie.spec
-    store-field-requires
-    far-offer-requires
-    enum-told
-    first-common-requires
+    (λ c κs. search needs)
+    (λ c κs. search needs)
+    (λ c. search needs)
+    (λ c κs. search needs)
     propose-requires
-    enum-told-2
-    first-common-requires-2
+    (λ c. search needs)
+    (λ c κs. search needs)
     propose-behind-requires
-    enum-told-3
-    send-list-requires
-    enum-told-4
-    answer-requires
-    same-length
-    same-length-2
+    (λ c. search needs)
+    (λ c κs. search needs)
+    (λ c. search needs)
+    (λ c κs. search needs)
+    (λ c. search needs)
+    (λ c. search needs)
     returns
-    same-length-3
-    same-length-4
+    (λ c. search needs)
+    (λ c. search needs)
     returns-2
-    same-length-5
-    same-length-6
+    (λ c. search needs)
+    (λ c. search needs)
     returns-3
-    same-length-7
+    (λ c. search needs)
     returns-4)

@@ -9,53 +9,17 @@ use Rattle.station.proofs.Saying.{did-bare}
 use Rattle.station.proofs.gate.checked_step.Statement.{statement}
 use Rattle.station.proofs.gate.checked_step.Tie as tie
 
-silent-requires : tie.Need-silent-requires
-silent-requires c κs = search needs
-
 returns : tie.Need-returns
 returns c = rw (small-output _ _ _ _ _ _ _ _ _ (c .before .if1 .taken)) (did-bare _ _ _ _ _ (c .silent .ensures))
 
-silent-requires-2 : tie.Need-silent-requires-2
-silent-requires-2 c κs = search needs
-
 returns-2 : tie.Need-returns-2
 returns-2 c = rw (small-store _ _ _ _ _ _ _ _ _ (c .before .before .if1 .left) (c .before .if2 .taken)) (did-bare _ _ _ _ _ (c .silent2 .ensures))
-
-check-tables-requires : tie.Need-check-tables-requires
-check-tables-requires c κs = search needs
-
-enum-told : tie.Need-enum-told
-enum-told c = search needs
 
 timed-step-requires : tie.Need-timed-step-requires
 timed-step-requires c κs =
     let e = c .before .before in
     let t = tables-good _ _ (sym (rw (e .enum-told .given .1) at (e .before .before .check-tables .ensures))) in
     (t .table, t .wishes, search needs, search needs)
-
-enum-told-2 : tie.Need-enum-told-2
-enum-told-2 c = search needs
-
-silent-requires-3 : tie.Need-silent-requires-3
-silent-requires-3 c κs = search needs
-
-enum-told-3 : tie.Need-enum-told-3
-enum-told-3 c = search needs
-
-silent-requires-4 : tie.Need-silent-requires-4
-silent-requires-4 c κs = search needs
-
-enum-told-4 : tie.Need-enum-told-4
-enum-told-4 c = search needs
-
-silent-requires-5 : tie.Need-silent-requires-5
-silent-requires-5 c κs = search needs
-
-same-length : tie.Need-same-length
-same-length c = search needs
-
-same-length-2 : tie.Need-same-length-2
-same-length-2 c = search needs
 
 returns-3 : tie.Need-returns-3
 returns-3 c =
@@ -90,21 +54,21 @@ pub checked-step-spec : {M : Type 1} → statement M
 checked-step-spec =
     tie.close
     (tie.spec
-    silent-requires
+    (λ c κs. search needs)
     returns
-    silent-requires-2
+    (λ c κs. search needs)
     returns-2
-    check-tables-requires
-    enum-told
+    (λ c κs. search needs)
+    (λ c. search needs)
     timed-step-requires
-    enum-told-2
-    silent-requires-3
-    enum-told-3
-    silent-requires-4
-    enum-told-4
-    silent-requires-5
-    same-length
-    same-length-2
+    (λ c. search needs)
+    (λ c κs. search needs)
+    (λ c. search needs)
+    (λ c κs. search needs)
+    (λ c. search needs)
+    (λ c κs. search needs)
+    (λ c. search needs)
+    (λ c. search needs)
     returns-3
     returns-4
     returns-5

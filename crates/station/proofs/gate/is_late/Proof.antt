@@ -5,17 +5,11 @@ use mathlib.Core.Path.{sym, _∙_}
 use Rattle.station.proofs.gate.is_late.Statement.{statement}
 use Rattle.station.proofs.gate.is_late.Tie as tie
 
-is-over-requires : tie.Need-is-over-requires
-is-over-requires c κs = search needs
-
 returns : tie.Need-returns
 returns c = rw (sym (c .before .is-over .ensures) ∙ c .if1 .taken)
-
-sub-result : tie.Need-sub-result
-sub-result c = search needs
 
 returns-2 : tie.Need-returns-2
 returns-2 c = rw (sym (c .before .is-over .ensures) ∙ c .if1 .left)
 
 pub is-late-spec : {M : Type 1} → statement M
-is-late-spec = tie.close (tie.spec is-over-requires returns sub-result returns-2)
+is-late-spec = tie.close (tie.spec (λ c κs. search needs) returns (λ c. search needs) returns-2)

@@ -7,22 +7,10 @@ use Rattle.station.proofs.Saying.{did-bare}
 use Rattle.station.proofs.gate.timed_step.Statement.{statement}
 use Rattle.station.proofs.gate.timed_step.Tie as tie
 
-carried-by-requires : tie.Need-carried-by-requires
-carried-by-requires c κs = search needs
-
-silent-requires : tie.Need-silent-requires
-silent-requires c κs = search needs
-
 returns : tie.Need-returns
 returns c =
     let e = c .before .before .before .carried-by .ensures in
     rw (time-before _ _ _ _ _ _ _ (rw e at (c .before .if1 .taken))) (did-bare _ _ _ _ _ (c .silent .ensures))
-
-is-late-requires : tie.Need-is-late-requires
-is-late-requires c κs = search needs
-
-silent-requires-2 : tie.Need-silent-requires-2
-silent-requires-2 c κs = search needs
 
 returns-2 : tie.Need-returns-2
 returns-2 c =
@@ -30,12 +18,6 @@ returns-2 c =
     let e = l .before .before .before .carried-by .ensures in
     rw (timed-out _ _ _ _ _ _ _ (rw e at (l .before .if1 .left)) (sym (rw e at (l .is-late .ensures)) ∙ c .before .if2 .taken))
     (did-bare _ _ _ _ _ (c .silent2 .ensures))
-
-is-mode-requires : tie.Need-is-mode-requires
-is-mode-requires c κs = search needs
-
-silent-requires-3 : tie.Need-silent-requires-3
-silent-requires-3 c κs = search needs
 
 returns-3 : tie.Need-returns-3
 returns-3 c =
@@ -46,15 +28,6 @@ returns-3 c =
     (in-mode _ _ _ _ _ _ _ (rw e at (l .before .if1 .left)) (sym (rw e at (l .is-late .ensures)) ∙ m .before .if2 .left)
     (sym (rw e at (m .is-mode .ensures)) ∙ c .before .if3 .taken))
     (did-bare _ _ _ _ _ (c .silent3 .ensures))
-
-sorted-step-requires : tie.Need-sorted-step-requires
-sorted-step-requires c κs = search needs
-
-same-length : tie.Need-same-length
-same-length c = search needs
-
-same-length-2 : tie.Need-same-length-2
-same-length-2 c = search needs
 
 returns-4 : tie.Need-returns-4
 returns-4 c =
@@ -72,16 +45,16 @@ pub timed-step-spec : {M : Type 1} → statement M
 timed-step-spec =
     tie.close
     (tie.spec
-    carried-by-requires
-    silent-requires
+    (λ c κs. search needs)
+    (λ c κs. search needs)
     returns
-    is-late-requires
-    silent-requires-2
+    (λ c κs. search needs)
+    (λ c κs. search needs)
     returns-2
-    is-mode-requires
-    silent-requires-3
+    (λ c κs. search needs)
+    (λ c κs. search needs)
     returns-3
-    sorted-step-requires
-    same-length
-    same-length-2
+    (λ c κs. search needs)
+    (λ c. search needs)
+    (λ c. search needs)
     returns-4)

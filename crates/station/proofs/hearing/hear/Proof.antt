@@ -7,27 +7,6 @@ use Rattle.station.proofs.Needing.{hears-start, hears-signal}
 use Rattle.station.proofs.hearing.hear.Statement.{statement}
 use Rattle.station.proofs.hearing.hear.Tie as tie
 
-enum-known-event : tie.Need-enum-known-event
-enum-known-event c = search needs
-
-enum-known-event-2 : tie.Need-enum-known-event-2
-enum-known-event-2 c = search needs
-
-enum-told : tie.Need-enum-told
-enum-told c = search needs
-
-hear-field-requires : tie.Need-hear-field-requires
-hear-field-requires c κs = search needs
-
-enum-told-2 : tie.Need-enum-told-2
-enum-told-2 c = search needs
-
-enum-told-3 : tie.Need-enum-told-3
-enum-told-3 c = search needs
-
-enum-told-4 : tie.Need-enum-told-4
-enum-told-4 c = search needs
-
 returns : tie.Need-returns
 returns c =
     let e = c .before .event .given in
@@ -47,23 +26,20 @@ returns-4 c = rw (c .enum-told2 .given .1) (refl, λ i. never i)
 returns-5 : tie.Need-returns-5
 returns-5 c = rw (c .enum-told3 .given .1) (refl, λ i. never i)
 
-returns-6 : tie.Need-returns-6
-returns-6 c = search needs
-
 pub hear-spec : {M : Type 1} → statement M
 hear-spec =
     tie.close
     (tie.spec
-    enum-known-event
-    enum-known-event-2
-    enum-told
-    hear-field-requires
-    enum-told-2
-    enum-told-3
-    enum-told-4
+    (λ c. search needs)
+    (λ c. search needs)
+    (λ c. search needs)
+    (λ c κs. search needs)
+    (λ c. search needs)
+    (λ c. search needs)
+    (λ c. search needs)
     returns
     returns-2
     returns-3
     returns-4
     returns-5
-    returns-6)
+    (λ c. search needs))

@@ -7,24 +7,6 @@ use Rattle.station.proofs.Needing.{hears-message, hears-spoilt}
 use Rattle.station.proofs.hearing.hear_field.Statement.{statement}
 use Rattle.station.proofs.hearing.hear_field.Tie as tie
 
-check-message-requires : tie.Need-check-message-requires
-check-message-requires c κs = search needs
-
-enum-known-parts : tie.Need-enum-known-parts
-enum-known-parts c = search needs
-
-type-heard-requires : tie.Need-type-heard-requires
-type-heard-requires c κs = search needs
-
-enum-told : tie.Need-enum-told
-enum-told c = search needs
-
-enum-told-2 : tie.Need-enum-told-2
-enum-told-2 c = search needs
-
-enum-told-3 : tie.Need-enum-told-3
-enum-told-3 c = search needs
-
 returns : tie.Need-returns
 returns c =
     let p = c .before .before in
@@ -43,12 +25,12 @@ pub hear-field-spec : {M : Type 1} → statement M
 hear-field-spec =
     tie.close
     (tie.spec
-    check-message-requires
-    enum-known-parts
-    type-heard-requires
-    enum-told
-    enum-told-2
-    enum-told-3
+    (λ c κs. search needs)
+    (λ c. search needs)
+    (λ c κs. search needs)
+    (λ c. search needs)
+    (λ c. search needs)
+    (λ c. search needs)
     returns
     returns-2
     returns-3

@@ -12,9 +12,6 @@ use Rattle.station.proofs.Sendings.{said-one, said-none, said-same, lie
 use Rattle.station.proofs.sending.propose.Statement.{statement}
 use Rattle.station.proofs.sending.propose.Tie as tie
 
-enum-known-found : tie.Need-enum-known-found
-enum-known-found c = search needs
-
 cast-number : tie.Need-cast-number
 cast-number c =
     let s = c .before .before .before .before .before .before .before .before in
@@ -24,18 +21,6 @@ put-mode-requires : tie.Need-put-mode-requires
 put-mode-requires c κs =
     let s = c .before .before .before .before .before .before .before .before .before in
     (lies-same (s .args .wishes .now) (c .before .before .before .found .given .1) (s .pre .0), s .pre .1)
-
-answer-requires : tie.Need-answer-requires
-answer-requires c κs = search needs
-
-enum-told : tie.Need-enum-told
-enum-told c = search needs
-
-answer-requires-2 : tie.Need-answer-requires-2
-answer-requires-2 c κs = search needs
-
-same-length : tie.Need-same-length
-same-length c = search needs
 
 returns : tie.Need-returns
 returns c = λ xs h.
@@ -56,12 +41,12 @@ pub propose-spec : {M : Type 1} → statement M
 propose-spec =
     tie.close
     (tie.spec
-    enum-known-found
+    (λ c. search needs)
     cast-number
     put-mode-requires
-    answer-requires
-    enum-told
-    answer-requires-2
-    same-length
+    (λ c κs. search needs)
+    (λ c. search needs)
+    (λ c κs. search needs)
+    (λ c. search needs)
     returns
     returns-2)

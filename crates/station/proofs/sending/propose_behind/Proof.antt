@@ -30,19 +30,10 @@ room c =
     let l = list-sent c in
     second-room _ (s .args .out .now) _ _ (l .2) (s .pre .2) (l .0) (l .1)
 
-enum-known-found : tie.Need-enum-known-found
-enum-known-found c = search needs
-
 cast-number : tie.Need-cast-number
 cast-number c =
     let s = c .before .before .before .before .before .before .before .before .before in
     omega (arith, lies-same (s .args .wishes .now) (c .before .before .found .given .1) (s .pre .0) .2)
-
-list-offer-requires : tie.Need-list-offer-requires
-list-offer-requires c κs = search needs
-
-put-message-requires : tie.Need-put-message-requires
-put-message-requires c κs = search needs
 
 sub-put-mode : tie.Need-sub-put-mode
 sub-put-mode c = room (c .before .before) .0
@@ -50,27 +41,12 @@ sub-put-mode c = room (c .before .before) .0
 part-put-mode-start : tie.Need-part-put-mode-start
 part-put-mode-start c = room (c .before .before) .0
 
-part-put-mode-end : tie.Need-part-put-mode-end
-part-put-mode-end c = search needs
-
 put-mode-requires : tie.Need-put-mode-requires
 put-mode-requires c κs =
     let one = c .before .before .before in
     let f = one .before .before .before .before .before in
     let s = f .before .before .before .before .before .before .before in
     (lies-same (s .args .wishes .now) (f .found .given .1) (s .pre .0), room one .1)
-
-answer-requires : tie.Need-answer-requires
-answer-requires c κs = search needs
-
-enum-told : tie.Need-enum-told
-enum-told c = search needs
-
-answer-requires-2 : tie.Need-answer-requires-2
-answer-requires-2 c κs = search needs
-
-same-length : tie.Need-same-length
-same-length c = search needs
 
 returns : tie.Need-returns
 returns c = λ xs h.
@@ -99,17 +75,17 @@ pub propose-behind-spec : {M : Type 1} → statement M
 propose-behind-spec =
     tie.close
     (tie.spec
-    enum-known-found
+    (λ c. search needs)
     cast-number
-    list-offer-requires
-    put-message-requires
+    (λ c κs. search needs)
+    (λ c κs. search needs)
     sub-put-mode
     part-put-mode-start
-    part-put-mode-end
+    (λ c. search needs)
     put-mode-requires
-    answer-requires
-    enum-told
-    answer-requires-2
-    same-length
+    (λ c κs. search needs)
+    (λ c. search needs)
+    (λ c κs. search needs)
+    (λ c. search needs)
     returns
     returns-2)

@@ -6,29 +6,11 @@ use Rattle.station.proofs.Sendings.{part-good, mode-put}
 use Rattle.station.proofs.sending.put_mode.Statement.{statement}
 use Rattle.station.proofs.sending.put_mode.Tie as tie
 
-mode-offer-requires : tie.Need-mode-offer-requires
-mode-offer-requires c κs = search needs
-
-add-end : tie.Need-add-end
-add-end c = search needs
-
-sub-put-message : tie.Need-sub-put-message
-sub-put-message c = search needs
-
-part-put-message-start : tie.Need-part-put-message-start
-part-put-message-start c = search needs
-
-part-put-message-end : tie.Need-part-put-message-end
-part-put-message-end c = search needs
-
 put-message-requires : tie.Need-put-message-requires
 put-message-requires c κs =
     let s = c .before .before .before .before .before .before in
     let p = s .args .chosen in
     (omega arith, omega arith, part-good (p .at) (p .length) (s .args .wishes .now) (s .pre .0 .1), s .pre .1)
-
-same-length : tie.Need-same-length
-same-length c = search needs
 
 returns : tie.Need-returns
 returns c =
@@ -41,11 +23,11 @@ pub put-mode-spec : {M : Type 1} → statement M
 put-mode-spec =
     tie.close
     (tie.spec
-    mode-offer-requires
-    add-end
-    sub-put-message
-    part-put-message-start
-    part-put-message-end
+    (λ c κs. search needs)
+    (λ c. search needs)
+    (λ c. search needs)
+    (λ c. search needs)
+    (λ c. search needs)
     put-message-requires
-    same-length
+    (λ c. search needs)
     returns)

@@ -6,18 +6,6 @@ use Rattle.station.proofs.Sendings.{said-one, list-put}
 use Rattle.station.proofs.sending.send_list.Statement.{statement}
 use Rattle.station.proofs.sending.send_list.Tie as tie
 
-list-offer-requires : tie.Need-list-offer-requires
-list-offer-requires c κs = search needs
-
-put-message-requires : tie.Need-put-message-requires
-put-message-requires c κs = search needs
-
-answer-requires : tie.Need-answer-requires
-answer-requires c κs = search needs
-
-same-length : tie.Need-same-length
-same-length c = search needs
-
 returns : tie.Need-returns
 returns c = λ xs h.
     let b = c .before .before .before in
@@ -28,4 +16,4 @@ returns c = λ xs h.
 pub send-list-spec : {M : Type 1} → statement M
 send-list-spec =
     tie.close
-    (tie.spec list-offer-requires put-message-requires answer-requires same-length returns)
+    (tie.spec (λ c κs. search needs) (λ c κs. search needs) (λ c κs. search needs) (λ c. search needs) returns)

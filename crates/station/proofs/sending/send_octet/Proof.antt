@@ -9,19 +9,10 @@ use Rattle.station.proofs.Sendings.{laid-octet, said}
 use Rattle.station.proofs.sending.send_octet.Statement.{statement}
 use Rattle.station.proofs.sending.send_octet.Tie as tie
 
-slice-write-out : tie.Need-slice-write-out
-slice-write-out c = search needs
-
-answer-requires : tie.Need-answer-requires
-answer-requires c κs = search needs
-
-same-length : tie.Need-same-length
-same-length c = search needs
-
 returns : tie.Need-returns
 returns c = λ xs h.
     let a = c .before .before .args in
     said (sends (a .octet ∷ []) [] xs (a .next)) 1 0 (a .stored) (c .answer .ensures) refl refl h (laid-octet (a .octet) (a .out .now) (omega arith))
 
 pub send-octet-spec : {M : Type 1} → statement M
-send-octet-spec = tie.close (tie.spec slice-write-out answer-requires same-length returns)
+send-octet-spec = tie.close (tie.spec (λ c. search needs) (λ c κs. search needs) (λ c. search needs) returns)
