@@ -1,11 +1,10 @@
 -- What is accepted: an MS that lies in a ready wish, and no other; what is answered and stored; and that Mode is reached in no third way.
 -- Assumes nothing.
-use Prim.Native.Nat.{ℕ, zero, suc, _≤_}
+use Prim.Native.Nat.{ℕ, _≤_}
 use mathlib.Core.Bool.{Bool, true, false}
 use mathlib.Core.List.{List, [], _∷_}
-use mathlib.Core.Logic.{_⊎_, inl, inr, _↔_}
+use mathlib.Core.Logic.{_⊎_, inl, inr}
 use mathlib.Core.Path.{_≡_, refl, sym, ap, _∙_}
-use native.Mathlib.Omega.{arith}
 use lib.Dec.{eqb}
 use lib.ListN.{length}
 use Rattle.octets.specs.Places.{pick}
@@ -28,7 +27,6 @@ use Rattle.table.specs.declared.Act.the-variants.{NoRow, SendSignal, CounterMrD
 use Rattle.table.specs.declared.After.the-variants.{ThenMs, ThenClMs, ThenCl, ThenHalf}
 use Rattle.table.specs.Phases.{kindOf, wishOf, ackOf}
 use Rattle.table.specs.Bound.{leadsTo}
-use Rattle.station.specs.Sending.{sentAck, sentNak}
 use Rattle.station.specs.Acting.{Outcome, quiet, sends, asksAck, judges}
 use Rattle.station.specs.Sorting.{Sort, known, strange, sortOf, fieldHeard}
 use Rattle.table.specs.Phases.{isMode}
@@ -38,8 +36,8 @@ use Rattle.station.specs.declared.Event.the-variants as events
 use Rattle.table.proofs.Needing.{needs-message}
 use Rattle.station.proofs.Sendings.{ack-octet, nak-octet}
 use Rattle.demands.specs.Given.{Given, steps, actOn, doing, Passes, standardHeard}
-use Rattle.demands.specs.Sent.{IsField, farSays}
-use Rattle.demands.specs.Proposals.{Fits, Judged, asked, unasked, unready, unfit, Reaches}
+use Rattle.demands.specs.Sent.{farSays}
+use Rattle.demands.specs.Proposals.{Judged, asked, unasked, unready, unfit, Reaches}
 use Rattle.demands.proofs.Following.{verdictOn, follows, by-test, of-step, finds, act-leads}
 use Rattle.demands.proofs.SentFields.{mode-is-stored}
 

@@ -1,9 +1,9 @@
 -- What the contract of `step` alone says of its buffers: each line of `OverBuffers`.
 -- Assumes nothing.
 use Prim.Native.Nat.{ℕ, _+_}
-use mathlib.Core.Bool.{Bool, true, false}
+use mathlib.Core.Bool.{true, false}
 use mathlib.Core.List.{List, [], _∷_, _++_, append-assoc}
-use mathlib.Core.Logic.{_⊎_, inl, inr, ⊎-elim, _↔_}
+use mathlib.Core.Logic.{_⊎_, inl, inr, ⊎-elim}
 use mathlib.Core.Path.{_≡_, refl, sym, ap, subst, _∙_}
 use native.Mathlib.Omega.{arith}
 use lib.ListN.{length, take, drop, length-append}
@@ -11,21 +11,18 @@ use lib.Seq.{take-append-seam, drop-append-seam}
 use Rattle.octets.specs.Lay.{put}
 use Rattle.choice.proofs.Truths.{never}
 use Rattle.table.specs.declared.Phase.{Phase}
-use Rattle.table.specs.declared.Phase.the-variants.{Initial, Mode}
+use Rattle.table.specs.declared.Phase.the-variants.{Initial}
 use Rattle.table.specs.declared.Kind.the-variants.{AtInitial, AtAskedE, AtAskedD, AtCounter, AtListed, AtHalf}
-use Rattle.table.specs.declared.Heard.the-variants as heard
-use Rattle.table.specs.declared.Act.the-variants.{NoRow, Judge}
-use Rattle.table.specs.Phases.{kindOf, entryOf, ackOf, isOver}
+use Rattle.table.specs.Phases.{kindOf, ackOf}
 use Rattle.table.specs.Phases.{isAmong}
 use Rattle.table.proofs.Lines.{ms-judged}
 use Rattle.station.specs.Acting.{Outcome, quiet, sends}
 use Rattle.station.specs.Stepping.{Reply, Did}
 use Rattle.table.specs.Phases.{isMode}
-use Rattle.station.specs.declared.Sends.the-variants.{NoSignal}
-use Rattle.demands.specs.Given.{Given, steps, InOctets, Sound, Due, HearsType, HearsSpoilt, standardHeard, isKept}
+use Rattle.demands.specs.Given.{Given, steps, Due, HearsType, standardHeard, isKept}
 use Rattle.demands.specs.Sent.{IsCl, IsField, farSays}
-use Rattle.demands.specs.Proposals.{Proposal, proposedBy, Judged, asked, unasked, unready, unfit, Proposes}
-use Rattle.demands.specs.Calls.{Call, phaseOf, given, told, firstSent, secondSent, storedThen, nextOf, Shows, OverBuffers}
+use Rattle.demands.specs.Proposals.{Judged, asked, unasked, unready, unfit}
+use Rattle.demands.specs.Calls.{Call, phaseOf, given, told, firstSent, storedThen, nextOf, Shows, OverBuffers}
 use Rattle.demands.proofs.Following.{follows, by-test, of-outcome}
 use Rattle.demands.proofs.Proposing.{two-answers, none-suits, proposed-first}
 use Rattle.demands.proofs.StepLines.{at-5000-handled, at-5001-timed-out, spoilt-nak, refusal-silent, refusal-keeps-output}

@@ -1,25 +1,22 @@
 -- The station's table by its cells: each line of `Cells` from the definition of a step.
 -- Assumes nothing.
-use Prim.Native.Nat.{ℕ, zero, suc, _+_, _≤_}
-use mathlib.Core.Bool.{Bool, true, false, _||_}
+use Prim.Native.Nat.{ℕ, _≤_}
+use mathlib.Core.Bool.{Bool, true, false}
 use mathlib.Core.List.{List, [], _∷_}
 use mathlib.Core.Path.{_≡_, refl, sym, ap, _∙_}
 use native.Mathlib.Omega.{arith}
 use borrow.Author.Tests.{ne-eqb}
-use lib.Dec.{eqb}
 use lib.ListN.{length}
-use Rattle.message.specs.Kinds.{typeOf}
-use Rattle.message.specs.Reader.{refused, readMessage}
 use Rattle.message.proofs.Accepted.{accepted-passed}
 use Rattle.choice.specs.Choosing.{unheard, heard}
 use Rattle.choice.proofs.Truths.{never}
 use Rattle.table.specs.declared.Phase.{Phase}
-use Rattle.table.specs.declared.Phase.the-variants.{Initial, AskedE, AskedD, ListsE, ListsD, Counter, Listed, Traded, Pair, Half, Proposed, Mode}
+use Rattle.table.specs.declared.Phase.the-variants.{Initial, AskedE, Listed, Traded, Pair, Half, Proposed, Mode}
 use Rattle.table.specs.declared.Kind.{Kind}
-use Rattle.table.specs.declared.Kind.the-variants.{AtInitial, AtAskedE, AtAskedD, AtListsE, AtListsD, AtCounter, AtListed, AtTraded, AtPair, AtHalf, AtProposed, AtMode}
+use Rattle.table.specs.declared.Kind.the-variants.{AtInitial, AtAskedE, AtAskedD, AtListsE, AtListsD, AtCounter, AtListed, AtTraded, AtPair, AtHalf, AtProposed}
 use Rattle.table.specs.declared.Heard.{Heard}
 use Rattle.table.specs.declared.Heard.the-variants as came
-use Rattle.table.specs.declared.Signal.the-variants.{MrE, MrD, CrE, CrD}
+use Rattle.table.specs.declared.Signal.the-variants.{MrD}
 use Rattle.table.specs.declared.Act.{Act}
 use Rattle.table.specs.declared.Act.the-variants.{NoRow, Propose, SendCl, SendClr, PairClr, Take, Judge, GiveUp}
 use Rattle.table.specs.declared.After.the-variants.{ThenMs, ThenClMs, ThenCl, ThenHalf}
@@ -27,18 +24,15 @@ use Rattle.table.specs.declared.Settings.{Settings}
 use Rattle.table.specs.Phases.{kindOf, ackOf}
 use Rattle.table.specs.Rows.{actOf}
 use Rattle.table.specs.Phases.{isAmong}
-use Rattle.table.proofs.Lines.{each, within, start-only-in-initial, mr-e-answered, mr-d-answered, cr-e-answered, cr-d-answered, ms-judged, cl-taken, clr-taken, ack1-agrees, ack2-never, nak-gives-up, tone-though-asked, tone-unasked}
+use Rattle.table.proofs.Lines.{each, within, start-only-in-initial, mr-e-answered, cr-e-answered, cr-d-answered, ms-judged, ack1-agrees, ack2-never, tone-though-asked}
 use Rattle.station.specs.Sending.{sentList}
-use Rattle.station.specs.Sorting.{known, strange, sortOf, typeHeard}
-use Rattle.station.specs.Acting.{Outcome, quiet, sends, farList, storedList}
+use Rattle.station.specs.Sorting.{known, sortOf, typeHeard}
+use Rattle.station.specs.Acting.{quiet, sends, farList, storedList}
 use Rattle.table.specs.Phases.{isMode}
-use Rattle.table.specs.declared.Start.{Start}
-use Rattle.table.specs.declared.Start.the-variants as start
 use Rattle.station.specs.declared.Event.{Event}
-use Rattle.station.specs.declared.Event.the-variants as events
-use Rattle.demands.specs.Given.{Given, steps, InOctets, Sound, Due, Passes, actOn, doing, HearsType, standardHeard}
+use Rattle.demands.specs.Given.{Given, steps, InOctets, Passes, actOn, doing}
 use Rattle.demands.specs.Sent.{IsField, listNamed}
-use Rattle.demands.specs.Proposals.{SendsMs, SendsClMs, Judged}
+use Rattle.demands.specs.Proposals.{SendsMs, Judged}
 use Rattle.demands.specs.Cells.{Comes, ComesMessage, NoneOf, SendsCl, SendsClr, Stores, MsOnList, ClMsOnList, ClOnList, Cells}
 use Rattle.demands.proofs.Following.{farHeard, reset-first, refuses-9, refuses-10-mode, follows}
 use Rattle.demands.proofs.SentFields.{list-is-stored}

@@ -2,23 +2,21 @@
 -- Assumes nothing.
 use Prim.Native.Nat.{ℕ}
 use mathlib.Core.Bool.{Bool, true, false}
-use mathlib.Core.List.{List, [], _∷_}
+use mathlib.Core.List.{List, []}
 use mathlib.Core.Path.{_≡_, refl, ap}
 use native.Mathlib.Omega.{arith}
 use Rattle.octets.specs.Places.{pick}
-use Rattle.choice.specs.Choosing.{Far, unheard, heard}
+use Rattle.choice.specs.Choosing.{Far, unheard}
 use Rattle.table.specs.declared.Phase.{Phase}
-use Rattle.table.specs.declared.Heard.{Heard}
 use Rattle.table.specs.declared.Act.{Act}
 use Rattle.table.specs.declared.Act.the-variants.{NoRow, SendSignal, CounterMrD, Propose, SendCl, SendClr, PairClr, Take, Judge, Agree, GiveUp, SendNak1}
 use Rattle.table.specs.declared.After.the-variants.{ThenMs, ThenClMs, ThenCl, ThenHalf}
 use Rattle.station.specs.Sending.{sentAck}
 use Rattle.station.specs.Acting.{Outcome, farList, asksAck, storedList, judges}
 use Rattle.station.proofs.Sendings.{ack-octet, nak-octet}
-use Rattle.demands.specs.Given.{Given, steps, InOctets, Sound, Passes, actOn, doing}
-use Rattle.demands.specs.Sent.{IsCl}
+use Rattle.demands.specs.Given.{Given, steps, InOctets, Sound, actOn, doing}
 use Rattle.demands.specs.Proposals.{Proposal, SendsMs, ms-first, ms-none, SendsClMs, cl-ms-first, cl-ms-none, FieldSent, nothing, ack, nak, cl, clr, ms, ms-on-list}
-use Rattle.demands.proofs.Following.{verdictOn, farHeard, of-step}
+use Rattle.demands.proofs.Following.{farHeard, of-step}
 use Rattle.demands.proofs.Proposing.{cl-is-sent, clr-is-sent, ms-goes, cl-ms-go}
 use Rattle.demands.proofs.Accepting.{Verdicts, fits-ready, fits-unready, fits-none, verdicts}
 

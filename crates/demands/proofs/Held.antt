@@ -1,11 +1,10 @@
 -- An own table and wishes are good exactly if they hold what the rules allow.
 -- Assumes nothing.
-use Prim.Native.Nat.{ℕ, _≤_}
-use mathlib.Core.Bool.{Bool, true, false}
+use Prim.Native.Nat.{ℕ}
+use mathlib.Core.Bool.{true}
 use mathlib.Core.List.{List, [], _∷_, List·Memᴰ}
 use mathlib.Core.Logic.{_↔_}
-use mathlib.Core.Path.{_≡_, refl, sym, ap, _∙_}
-use native.Mathlib.Omega.{arith}
+use mathlib.Core.Path.{_≡_, refl, ap}
 use borrow.Author.Tests.{le-leb, eq-eqb}
 use lib.ListN.{length}
 use Rattle.tree.specs.Codes.{fieldBase, fieldCodes, fieldBehind}
@@ -15,7 +14,7 @@ use Rattle.tree.proofs.Within.{in-first, in-rest}
 use Rattle.names.specs.Named.{standardCode}
 use Rattle.good.specs.Good.{allStandard, goodField}
 use Rattle.good.proofs.Parts.{good-parts}
-use Rattle.choice.specs.Wishes.{Wish, mostWishes, wishesOf, recordsOf, standardCodes, wishCodes, goodWish, goodWishes}
+use Rattle.choice.specs.Wishes.{Wish, mostWishes, wishesOf, standardCodes, wishCodes, goodWishes}
 use Rattle.choice.specs.Tables.{allInside}
 use Rattle.choice.proofs.Tabled.{good-fields, good-fill, records-good, few-wishes, standard-at, inside-each, inside-all}
 use Rattle.octets.proofs.Laws.{both-true}

@@ -1,20 +1,19 @@
 -- What a step proposes: the first wish that is ready, among the common ones where a list was heard; 11 where there is none; and what its
 -- MS says.
 -- Assumes nothing.
-use Prim.Native.Nat.{ℕ, zero, suc, _≤_}
+use Prim.Native.Nat.{ℕ, zero, suc}
 use mathlib.Core.Bool.{Bool, true, false, not}
 use mathlib.Core.List.{List, [], _∷_, _++_}
 use mathlib.Core.Logic.{_⊎_, inl, inr, ⊎-elim, _↔_}
 use mathlib.Core.Path.{_≡_, refl, sym, ap, _∙_}
 use native.Mathlib.Omega.{arith}
-use Rattle.octets.specs.Bits.{AreOctets}
-use Rattle.tree.specs.Codes.{codeOf, fieldBase}
+use Rattle.tree.specs.Codes.{codeOf}
 use Rattle.tree.specs.Fields.{isIn, allIn}
 use Rattle.message.specs.Reader.{messageCodes}
 use Rattle.octets.specs.Places.{both}
 use Rattle.good.specs.Good.{goodField}
-use Rattle.choice.specs.Wishes.{Wish, wishesOf, standardCodes, wishCodes}
-use Rattle.choice.specs.Choosing.{Far, unheard, heard, Choosing, chosen, refused, suits, First}
+use Rattle.choice.specs.Wishes.{Wish, standardCodes, wishCodes}
+use Rattle.choice.specs.Choosing.{Far, unheard, heard, Choosing, chosen, refused, First}
 use Rattle.choice.specs.declared.Pick.{Pick}
 use Rattle.choice.proofs.Chosen.{chosen-first, first-member, no-choice}
 use Rattle.choice.proofs.Tabled.{tables-good}
@@ -24,7 +23,6 @@ use Rattle.table.specs.declared.Phase.{Phase}
 use Rattle.table.specs.declared.Phase.the-variants.{Initial}
 use Rattle.table.specs.declared.Kind.{Kind}
 use Rattle.table.specs.declared.Kind.the-variants.{AtProposed}
-use Rattle.table.specs.declared.Heard.{Heard}
 use Rattle.table.specs.declared.Act.{Act}
 use Rattle.table.specs.declared.Signal.the-variants.{MrE, MrD, CrE, CrD}
 use Rattle.table.specs.declared.Act.the-variants.{NoRow, SendSignal, CounterMrD, Propose, SendCl, SendClr, PairClr, Take, Judge, Agree, GiveUp, SendNak1}
@@ -33,9 +31,9 @@ use Rattle.table.specs.declared.Settings.{Settings}
 use Rattle.table.specs.Phases.{kindOf}
 use Rattle.table.specs.Phases.{isAmong}
 use Rattle.station.specs.Sending.{sentList, noOffer, modeOffer, sentMode}
-use Rattle.station.specs.Acting.{Outcome, quiet, sends, stays, farList, farOffer, storedList, proposes, proposesBehind, judges}
+use Rattle.station.specs.Acting.{Outcome, quiet, farList, farOffer, storedList, proposes, proposesBehind, judges}
 use Rattle.station.specs.declared.FarOffer.{FarOffer}
-use Rattle.demands.specs.Given.{Given, steps, InOctets, Sound, Passes, actOn, doing, isActedOn}
+use Rattle.demands.specs.Given.{Given, steps, InOctets, Sound, actOn, doing, isActedOn}
 use Rattle.demands.specs.Sent.{says, IsSent, IsCl, IsClr, IsMs, farSays, bothShort, bothEight, listNamed}
 use Rattle.demands.specs.Proposals.{Proposal, proposedBy, NoneSuits, SendsMs, ms-first, ms-none, SendsClMs, cl-ms-first, cl-ms-none, SendsMode, Proposing, at-once, on-list, behind-list, Proposes}
 use Rattle.demands.proofs.Following.{choiceBy, verdictOn, farHeard, Settled, one, eleven, settled, follows, kept-idle, of-step}

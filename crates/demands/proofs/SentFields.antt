@@ -2,30 +2,24 @@
 -- codes that were kept.
 -- Assumes nothing.
 use Prim.Native.Nat.{ℕ, zero, suc, _+_, _*_, _-_, _≤_, _<_}
-use mathlib.Core.Bool.{Bool, true, false, not}
+use mathlib.Core.Bool.{Bool, true, false}
 use mathlib.Core.List.{List, [], _∷_, _++_, append-nil}
 use mathlib.Core.Logic.{_⊎_, ⊎-elim}
 use mathlib.Core.Path.{_≡_, refl, sym, ap, _∙_}
 use native.Mathlib.Omega.{arith}
 use borrow.Author.Tests.{lt-ltb, ne-eqb}
-use lib.Dec.{eqb}
-use lib.ListN.{length, take, drop, length-drop}
+use lib.ListN.{length, length-drop}
 use Rattle.octets.specs.Bits.{num, AreOctets}
-use Rattle.octets.specs.Places.{pick}
 use Rattle.tree.specs.Block.{setBits, blockNumbers, blockEnd}
 use Rattle.tree.specs.Codes.{codeOf, parCodes, restCodes, fieldBase, fieldCodes, fieldBehind}
 use Rattle.tree.specs.Fields.{isIn, codesIn}
-use Rattle.tree.specs.Form.{fieldForm}
 use Rattle.tree.specs.Order.{Ascending}
 use Rattle.tree.specs.declared.Field.the-variants.{Identification, Standard}
-use Rattle.tree.specs.declared.Form.the-variants.{Fine}
 use Rattle.tree.proofs.Ascending.{field-ascending}
 use Rattle.tree.proofs.Forms.{field-fits}
-use Rattle.message.specs.Kinds.{known, typeOf, revisionOf}
-use Rattle.message.specs.Reader.{listRoom, standardAt, messageCodes, accepted, readMessage}
-use Rattle.message.proofs.Accepted.{accepted-passed}
+use Rattle.message.specs.Kinds.{known}
+use Rattle.message.specs.Reader.{standardAt}
 use Rattle.message.proofs.Room.{codes-in}
-use Rattle.meaning.specs.Minimal.{fieldMinimal, messageMinimal}
 use Rattle.meaning.specs.Written.{written}
 use Rattle.meaning.specs.Writing.{sent, nsAgrees, writeMessage}
 use Rattle.meaning.proofs.Growing.{in-either}

@@ -26,7 +26,6 @@ use Rattle.message.specs.Reader.{nsTold}
 use Rattle.message.specs.Reader as messageReader
 use Rattle.message.specs.declared.MessageRead.{MessageRead}
 use Rattle.writer.specs.Contracts.{MessageWrites}
-use Rattle.meaning.specs.Writing as writing
 use Rattle.writer.specs.Writer as messageWriter
 use Rattle.writer.specs.declared.MessageWritten.{MessageWritten}
 use Rattle.names.specs.Contracts.{TellsNparPlaces, TellsSparPlaces}

@@ -18,7 +18,7 @@ use Rattle.table.specs.declared.OnMrD.the-variants as on-mr-d
 use Rattle.table.specs.declared.OnMrE.the-variants as on-mr-e
 use Rattle.table.specs.declared.Phase.the-variants.{Initial, AskedD, ListsD, Proposed}
 use Rattle.table.specs.declared.Settings.{Settings}
-use Rattle.station.specs.Acting.{quiet, sends}
+use Rattle.station.specs.Acting.{sends}
 use Rattle.station.specs.Stepping.{stepOf}
 use Rattle.station.specs.declared.Event.the-variants.{Field}
 

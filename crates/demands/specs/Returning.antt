@@ -5,7 +5,7 @@ use Prim.Native.Nat.{ℕ, _<_, _≤_}
 use mathlib.Core.Bool.{Bool}
 use mathlib.Core.List.{List}
 use mathlib.Core.Path.{_≡_}
-use lib.ListN.{length, take, drop}
+use lib.ListN.{length, take}
 use Rattle.octets.specs.Bits.{AreOctets}
 use Rattle.octets.specs.Lay.{put}
 use Rattle.frame.specs.Limits.{informationRoom, frameRoom}

@@ -3,12 +3,12 @@
 -- Assumes nothing.
 use mathlib.Core.Path.{_≡_, refl, sym, ap, ap₂, _∙_, subst}
 use mathlib.Core.Bool.{Bool, true, false}
-use Prim.Native.Nat.{ℕ, zero, suc, _+_, _*_, _/_, _%_, _^_, _<_, _≤_}
+use Prim.Native.Nat.{ℕ, zero, suc, _+_, _*_, _/_, _%_, _^_, _<_}
 use native.Mathlib.Nat.{le-of-suc-le-suc, not-suc-le-zero, zero-lt-suc, zero-add, add-zero, zero-mul, mul-one, mod-lt, div-add-mod', div-lt-iff-lt-mul, pow-suc}
 use native.Mathlib.Omega.{arith}
 use borrow.Author.Tests.{eqb-true, eqb-false}
 use lib.Arith.{bin-ind, lt-one}
-use lib.Bits.{bitXor, differ, xor-step, xor-shr, xor-mod, xor-lt, xor-block, xor-zero-r, xor-shifted, block-half, block-odd}
+use lib.Bits.{bitXor, differ, xor-step, xor-shr, xor-mod, xor-lt, xor-block, xor-zero-r, block-half, block-odd}
 use lib.Dec.{eqb}
 use lib.Pow.{pow-pos}
 use Rattle.octets.specs.Bits.{odd}

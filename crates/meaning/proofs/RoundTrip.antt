@@ -12,7 +12,7 @@ use lib.Dec.{ltb, eqb}
 use lib.ListN.{length, getD, take, drop, length-append, length-drop, drop-of-length-le}
 use lib.Seq.{drop-cons, drop-drop, drop-append-seam, take-all}
 use Rattle.octets.specs.Bits.{AreOctets}
-use Rattle.octets.specs.Places.{pick, both}
+use Rattle.octets.specs.Places.{pick}
 use Rattle.tree.specs.Codes.{codeOf, fieldBase, fieldCodes, fieldBehind}
 use Rattle.tree.specs.Form.{isFine, fieldForm}
 use Rattle.tree.specs.Fields.{isIn, mostOctets}

@@ -15,7 +15,6 @@ use Rattle.tree.specs.declared.Form.{Form}
 use Rattle.tree.specs.declared.Form.the-variants.{Fine, Early, Wrong, Left, BadLength}
 use Rattle.message.specs.Kinds.{known, hasFields, typeOf, revisionOf}
 use Rattle.message.specs.Nonstandard.{nsAnnounced, tailForm}
-use Rattle.message.specs.declared.Message.{Message}
 use Rattle.message.specs.declared.Span.{Span}
 use Rattle.message.specs.declared.MessageRead.{MessageRead}
 use Rattle.message.specs.declared.MessageRead.the-variants.{Read, BadLent, BadSize, UnknownType, Malformed}

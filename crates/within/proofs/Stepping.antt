@@ -17,7 +17,7 @@ use Rattle.within.specs.Pairing.{Compared, BlockWithin, Level, subs, par
 use Rattle.tree.specs.Fields.{isIn, allIn}
 use Rattle.tree.specs.Wide.{lowFits}
 use Rattle.within.specs.declared.Paired.{Paired}
-use Rattle.within.proofs.Apart.{from-lower, from-append, from-ascending, in-none, in-append, in-behind, both, parts-within}
+use Rattle.within.proofs.Apart.{from-lower, from-append, from-ascending, in-none, in-append, in-behind, parts-within}
 use Rattle.tree.proofs.Ascending.{low-between, par-between}
 use Rattle.tree.proofs.Within.{in-cases, in-first, allIn-isIn, isIn-allIn}
 

@@ -1,6 +1,5 @@
 -- `writer::put_field` meets its contract: NPar(1), SPar(1) and the Par(2) blocks.
 -- Assumes nothing.
-use mathlib.Core.Path.{refl}
 use native.Mathlib.Omega.{arith}
 use borrow.Author.Needs.{needs}
 use Rattle.writer.proofs.Putting.{puts-most, between-wider, between-front, between-behind, field-puts}

@@ -1,7 +1,7 @@
 -- `writer::put_lower` meets its contract: SPar(2) is put where its tests find one, or nothing.
 -- Assumes nothing.
 use Prim.Native.Nat.{_+_}
-use mathlib.Core.Path.{refl, sym, _∙_}
+use mathlib.Core.Path.{sym, _∙_}
 use native.Mathlib.Omega.{arith}
 use borrow.Author.Needs.{needs}
 use borrow.Author.Tests.{eq-eqb, ne-eqb}

@@ -1,7 +1,7 @@
 -- `writer::put_pars` meets its contract. The loop's invariant: all but what the codes from i on give was put (`Parting`).
 -- Assumes nothing.
 use Prim.Native.Nat.{_-_}
-use mathlib.Core.Path.{refl, sym, _∙_}
+use mathlib.Core.Path.{sym, _∙_}
 use native.Mathlib.Omega.{arith}
 use borrow.Author.Needs.{needs}
 use lib.ListN.{length}

@@ -1,7 +1,6 @@
 -- `station::acts::sorted_step` meets its contract: the act is that of the table, and a message that it looks at stands there.
 -- Assumes nothing.
 use borrow.Author.Needs.{needs}
-use mathlib.Core.Path.{_∙_}
 use Rattle.station.proofs.Needing.{needs-standing}
 use Rattle.station.proofs.Saying.{did-bare}
 use Rattle.station.proofs.acts.sorted_step.Statement.{statement}
