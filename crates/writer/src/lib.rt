@@ -292,7 +292,8 @@ fn put_pars(list: &[u32], out: &mut [u8], start: usize) -> usize
         i = i + 1 + n;
         at = put_lower(&list[i..], head, out, at);
         if ends_par(list, i) {
-            mark_last(out, at);
+            // lent as so many octets, the length of the buffer does not have to be handed down to here
+            mark_last(&mut out[0..MOST_OCTETS], at);
         }
     }
     at

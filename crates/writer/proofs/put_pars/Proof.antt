@@ -1,13 +1,23 @@
 -- `writer::put_pars` meets its contract. The loop's invariant: all but what the codes from i on give was put (`Parting`).
 -- Assumes nothing.
-use Prim.Native.Nat.{_-_}
-use mathlib.Core.Path.{sym, _∙_}
+use Prim.Native.Nat.{ℕ, _-_}
+use mathlib.Core.List.{List, append-nil}
+use mathlib.Core.Path.{_≡_, sym, ap, _∙_}
 use native.Mathlib.Omega.{arith}
 use borrow.Author.Needs.{needs}
-use lib.ListN.{length}
+use borrow.Rule.Slice.PartMut.{putMid}
+use lib.ListN.{length, take, drop, drop-of-length-le}
+use lib.Seq.{take-all}
 use Rattle.writer.proofs.Putting.{puts-most, putting-none, Parting, parting-head, parting-count, parting-under, parting-behind, parting-on, parting-closed, parting-end}
 use Rattle.writer.proofs.put_pars.Statement.{statement}
 use Rattle.writer.proofs.put_pars.Tie as tie
+
+-- the whole buffer lent as a part of itself
+whole-lent : (xs : List ℕ) → length xs ≡ 64 → take 64 (drop 0 xs) ≡ xs
+whole-lent xs h = take-all 64 xs (omega arith)
+
+whole-back : (xs ys : List ℕ) → length xs ≡ 64 → putMid 0 64 xs ys ≡ ys
+whole-back xs ys h = rw (drop-of-length-le xs {i = 64} (omega arith)) (append-nil ys)
 
 abbrev Inv-loop : tie.InvT-loop
 Inv-loop list out₀ start at₀ i₀ out at i = Parting list i out₀ start out at
@@ -81,14 +91,22 @@ put-lower-requires c κs = let p = c .before .before .before .before in let r = 
     let x = t .before .loop .inv in let h = t .loop-test .taken in
     (parting-behind x h (r .run-length .ensures .0), parting-head x h, p .put-block .ensures .size, puts-most (p .put-block .ensures))
 
+part-mark-last-start : tie.Need-part-mark-last-start Inv-loop μ-loop
+part-mark-last-start c = omega arith
+
+part-mark-last-end : tie.Need-part-mark-last-end Inv-loop μ-loop
+part-mark-last-end c = let q = c .before .before .before .before in omega (arith, q .put-lower .ensures .size)
+
 loop-less : tie.Need-loop-less Inv-loop μ-loop
 loop-less c = omega arith
 
 loop-again : tie.Need-loop-again Inv-loop μ-loop
 loop-again c = let m = c .before .before in let f = m .before .before in let e = f .before in let q = e .before .before .before in
     let p = q .before .before .before .before .before in let r = p .before .before .before in let t = r .before .before .before in
-    parting-closed (t .before .loop .inv) (t .loop-test .taken) (r .run-length .ensures .0) (p .put-block .ensures) (q .put-lower .ensures)
-    (sym (e .ends-par .ensures) ∙ f .if1 .taken) (m .mark-last .kept .0 ∙ q .put-lower .ensures .size) (m .mark-last .ensures)
+    let xs = q .put-lower .last .1 .1 .0 in let ys = m .mark-last .last .0 in let z = q .put-lower .ensures .size in
+    rw (whole-back xs ys z)
+    (parting-closed (t .before .loop .inv) (t .loop-test .taken) (r .run-length .ensures .0) (p .put-block .ensures) (q .put-lower .ensures)
+    (sym (e .ends-par .ensures) ∙ f .if1 .taken) (m .mark-last .kept .0 ∙ ap length (whole-lent xs z) ∙ z) (rw (whole-lent xs z) at (m .mark-last .ensures)))
 
 loop-less-2 : tie.Need-loop-less-2 Inv-loop μ-loop
 loop-less-2 c = omega arith
@@ -105,4 +123,4 @@ returns : tie.Need-returns Inv-loop μ-loop
 returns c = parting-end (c .before .loop .inv) (c .loop-test .left)
 
 pub put-pars-spec : {M : Type 1} → statement M
-put-pars-spec = tie.close (tie.spec Inv-loop μ-loop loop-holds mul-head shared-slice-read-head add-rest mul-rest sub-rest part-rest-start part-rest-end add-run-length (λ c κs. search needs) sub-put-block part-put-block-start part-put-block-end put-block-requires add-i add-i-2 mul-put-lower sub-put-lower part-put-lower-start part-put-lower-end put-lower-requires (λ c κs. search needs) (λ c κs. search needs) loop-less loop-again loop-less-2 loop-again-2 same-length returns)
+put-pars-spec = tie.close (tie.spec Inv-loop μ-loop loop-holds mul-head shared-slice-read-head add-rest mul-rest sub-rest part-rest-start part-rest-end add-run-length (λ c κs. search needs) sub-put-block part-put-block-start part-put-block-end put-block-requires add-i add-i-2 mul-put-lower sub-put-lower part-put-lower-start part-put-lower-end put-lower-requires (λ c κs. search needs) (λ c. search needs) part-mark-last-start part-mark-last-end (λ c κs. search needs) loop-less loop-again loop-less-2 loop-again-2 same-length returns)
