@@ -1,16 +1,15 @@
 -- What is heard of the far side: what its identification field says, what is stored of its standard field, the choice from its list, and
--- what is done with a list that was taken or an MS that was judged.
+-- what a list that was taken or an MS that was judged leads to.
 -- Assumes nothing.
 use Prim.Native.Nat.{ℕ, _<_, _≤_}
 use mathlib.Core.Bool.{true, false}
 use mathlib.Core.List.{List, [], _∷_, _++_}
 use mathlib.Core.Logic.{⊎-elim}
-use mathlib.Core.Path.{_≡_, refl, sym, ap, _∙_}
+use mathlib.Core.Path.{_≡_, sym, ap, _∙_}
 use native.Mathlib.Omega.{arith}
 use borrow.Author.Tests.{le-ltb}
 use lib.ListN.{length}
 use Rattle.octets.specs.Lay.{put}
-use Rattle.octets.proofs.Laying.{put-nil}
 use Rattle.tree.specs.Codes.{fieldBase, fieldCodes}
 use Rattle.tree.specs.Form.{fieldForm}
 use Rattle.tree.specs.Fields.{isIn, codesIn, mostOctets}
@@ -28,24 +27,20 @@ use Rattle.meaning.specs.Writing.{messageOctets}
 use Rattle.meaning.proofs.Growing.{within-at, in-either, in-front, tree-within}
 use Rattle.meaning.proofs.Reading.{treeAt, tree-codes, tree-good}
 use Rattle.names.specs.declared.Keep.{Keep}
+use Rattle.names.specs.declared.Keep.the-variants.{All, Named}
 use Rattle.strike.specs.Rewriting.{kept, rewritten, Rewrites}
 use Rattle.choice.specs.Wishes.{wishesOf, standardCodes, goodWishes}
-use Rattle.choice.specs.Choosing.{heard, Choosing, chosen, refused, choice, farCodes}
+use Rattle.choice.specs.Choosing.{heard, Choosing, choice, farCodes}
 use Rattle.choice.specs.Judging.{verdict}
 use Rattle.choice.proofs.Truths.{same-tests}
 use Rattle.choice.proofs.Chosen.{choice-struck}
-use Rattle.table.specs.declared.Phase.{Phase}
 use Rattle.table.specs.declared.Phase.the-variants.{Listed, Half, Mode}
-use Rattle.table.specs.declared.After.{After}
 use Rattle.table.specs.declared.After.the-variants.{ThenMs, ThenClMs, ThenCl, ThenHalf}
 use Rattle.table.specs.declared.Settings.{Settings}
 use Rattle.station.specs.Sending.{sentList}
-use Rattle.station.specs.Acting.{Outcome, sends, farList, farOffer, asksAck, storedList, storedMode, proposes, proposesBehind, takes, judges}
-use Rattle.station.specs.Stepping.{stepTold, Did}
-use Rattle.station.specs.Inner.{Standing, Says, SaysAny}
+use Rattle.station.specs.Acting.{sends, farList, farOffer, asksAck, storedList, storedMode, proposes, proposesBehind, takes, judges}
+use Rattle.station.specs.Inner.{Standing}
 use Rattle.station.specs.declared.FarOffer.{FarOffer}
-use Rattle.station.specs.declared.Sends.the-variants.{NoSignal}
-use Rattle.station.specs.declared.Stepped.{Stepped}
 
 -- ---- what a message with fields says
 
@@ -78,9 +73,9 @@ module _ (m : List ℕ) (e : readMessage m listRoom ≡ accepted) (h : hasFields
 
 -- so rewriting it into a store with room for a message stores what is kept of it
 pub stores-kept : {k : Keep} {m : List ℕ} {at n : ℕ} {store₀ store₁ : List ℕ} → Standing m at → mostOctets ≤ length store₀ → Rewrites k Standard m at store₀ n store₁
-    → (n ≡ length (kept k Standard m (standardAt m))) × (store₁ ≡ put (kept k Standard m (standardAt m)) store₀)
+    → (n ≡ length (kept k Standard m at)) × (store₁ ≡ put (kept k Standard m at) store₀)
 stores-kept {k} {m} {at} {n} {store₀} s r w =
-    let e : rewritten k Standard m at (length store₀) ≡ kept k Standard m (standardAt m) = rw (s .place) (all-kept m (s .fine) (s .fields) k (length store₀) r) in
+    let e : rewritten k Standard m at (length store₀) ≡ kept k Standard m at = rw (s .place) (all-kept m (s .fine) (s .fields) k (length store₀) r) in
     (w .count ∙ ap length e, w .output ∙ rw e)
 
 -- ---- the choice
@@ -90,55 +85,27 @@ pub choice-as-heard : (own m run : List ℕ) → length m ≤ mostOctets → goo
 unfolding farList
 choice-as-heard own m run h g = rw (wide-short Standard m (standardAt m) h) (sym (choice-struck own (codesIn Standard m (standardAt m)) run g))
 
--- ---- from what is said to what is done
-
--- what was sent, beside what was stored
-pub did-of-says : {o : Outcome} {out₀ out₁ store₀ store₁ : List ℕ} {r : Stepped} → store₁ ≡ put (o .stored) store₀ → Says o out₀ r out₁ → Did o out₀ store₀ r out₁ store₁
-did-of-says s a = record { reply = a .reply; output = a .output; store = s }
-
--- the same of what was sent for any octets that were stored
-pub did-of-any : (o : Outcome) (xs : List ℕ) {f : List ℕ → Outcome} {n : ℕ} {out₀ out₁ store₀ store₁ : List ℕ} {r : Stepped} → f xs ≡ o → o .stored ≡ xs
-    → n ≡ length xs → store₁ ≡ put xs store₀ → SaysAny f n out₀ r out₁ → Did o out₀ store₀ r out₁ store₁
-did-of-any o xs p q l s a = did-of-says (rw q s) (rw p at (a xs (sym l)))
-
--- an answer that sends nothing leaves the output
-pub says-silent : {n : ℕ} {next : Phase} {out : List ℕ} {r : Stepped}
-    → stepTold r ≡ record { no = 0; signal = NoSignal; first = 0; second = 0; stored = n; next = next }
-    → SaysAny (λ xs. sends [] [] xs next) n out r out
-says-silent {n} {next} {out} e xs l = record { reply = e ∙ rw l; output = sym (put-nil out) }
-
 -- ---- a list that was taken
 
-module _ (set : Settings) (own run m : List ℕ) (time : ℕ) where
-  -- it is stored, whatever comes then
-  pub takes-stores : (after : After) → takes after set own run m time .stored ≡ storedList m
-  takes-stores ThenMs = go (choice (standardCodes own) (heard (farList m)) run)
-    where
-      go : (x : Choosing) → proposes x set (farOffer m) run (storedList m) time .stored ≡ storedList m
-      go (chosen p) = refl
-      go (refused n) = refl
-  takes-stores ThenClMs = go (choice (standardCodes own) (heard (farList m)) run)
-    where
-      go : (x : Choosing) → proposesBehind (sentList 2 set own) x set (farOffer m) run (storedList m) time .stored ≡ storedList m
-      go (chosen p) = refl
-      go (refused n) = refl
-  takes-stores ThenCl = refl
-  takes-stores ThenHalf = refl
+module _ (set : Settings) (own run m : List ℕ) (time : ℕ) {at : ℕ} (s : Standing m at) where
+  -- what each arm sends and stores
+  pub takes-cl : sends (sentList 2 set own) [] (kept Named Standard m at) (Listed time) ≡ takes ThenCl set own run m time
+  unfolding storedList
+  takes-cl = rw (s .place)
 
-  -- what each arm says
-  pub takes-cl : {after : After} → after ≡ ThenCl → sends (sentList 2 set own) [] (storedList m) (Listed time) ≡ takes after set own run m time
-  takes-cl a = rw a
+  pub takes-half : sends [] [] (kept Named Standard m at) (Half time) ≡ takes ThenHalf set own run m time
+  unfolding storedList
+  takes-half = rw (s .place)
 
-  pub takes-half : {after : After} → after ≡ ThenHalf → sends [] [] (storedList m) (Half time) ≡ takes after set own run m time
-  takes-half a = rw a
+  -- the choice from it, alone or behind a CL
+  module _ {found : Choosing} {far : FarOffer} (g : goodWishes run ≡ true) (e : found ≡ choice (standardCodes own) (farCodes m at) run) (o : far ≡ farOffer m) where
+    pub takes-ms : proposes found set far run (kept Named Standard m at) time ≡ takes ThenMs set own run m time
+    unfolding storedList
+    takes-ms = rw (e, o, s .place, choice-as-heard (standardCodes own) m run (few m (s .fine) (s .fields)) g)
 
-  module _ {after : After} {at : ℕ} {found : Choosing} {far : FarOffer} (s : Standing m at) (g : goodWishes run ≡ true)
-      (e : found ≡ choice (standardCodes own) (farCodes m at) run) (o : far ≡ farOffer m) where
-    pub takes-ms : after ≡ ThenMs → proposes found set far run (storedList m) time ≡ takes after set own run m time
-    takes-ms a = rw (a, e, o, s .place, choice-as-heard (standardCodes own) m run (few m (s .fine) (s .fields)) g)
-
-    pub takes-cl-ms : after ≡ ThenClMs → proposesBehind (sentList 2 set own) found set far run (storedList m) time ≡ takes after set own run m time
-    takes-cl-ms a = rw (a, e, o, s .place, choice-as-heard (standardCodes own) m run (few m (s .fine) (s .fields)) g)
+    pub takes-cl-ms : proposesBehind (sentList 2 set own) found set far run (kept Named Standard m at) time ≡ takes ThenClMs set own run m time
+    unfolding storedList
+    takes-cl-ms = rw (e, o, s .place, choice-as-heard (standardCodes own) m run (few m (s .fine) (s .fields)) g)
 
 -- ---- an MS that was judged
 
@@ -148,9 +115,11 @@ pub verdict-there : (m run : List ℕ) {at : ℕ} {v x : ℕ} → at ≡ standar
 verdict-there m run p e q = rw (sym p, sym e) q
 
 -- accepted, it gives ACK(1) if it asks for that, else nothing
-pub accepts-asked : (m : List ℕ) (time : ℕ) → asksAck m ≡ true → sends (36 ∷ []) [] (storedMode m) (Mode time 0 true) ≡ judges 0 m time
-unfolding messageOctets
-accepts-asked m time a = rw a
+module _ (m : List ℕ) (time : ℕ) {at : ℕ} (s : Standing m at) where
+  pub accepts-asked : asksAck m ≡ true → sends (36 ∷ []) [] (kept All Standard m at) (Mode time 0 true) ≡ judges 0 m time
+  unfolding storedMode messageOctets
+  accepts-asked a = rw (a, s .place)
 
-pub accepts-unasked : (m : List ℕ) (time : ℕ) → asksAck m ≡ false → sends [] [] (storedMode m) (Mode time 0 false) ≡ judges 0 m time
-accepts-unasked m time a = rw a
+  pub accepts-unasked : asksAck m ≡ false → sends [] [] (kept All Standard m at) (Mode time 0 false) ≡ judges 0 m time
+  unfolding storedMode
+  accepts-unasked a = rw (a, s .place)

@@ -6,6 +6,7 @@ use mathlib.Core.List.{List}
 use mathlib.Core.Path.{_≡_, refl, ap, _∙_}
 use borrow.Author.Tests.{lt-ltb, le-ltb}
 use Rattle.octets.specs.Places.{pick}
+use Rattle.good.specs.Good.{goodField}
 use Rattle.choice.specs.Wishes.{wishesOf, goodWishes}
 use Rattle.choice.specs.Tables.{goodOwn, allInside, tablesNo, tablesTold}
 use Rattle.choice.specs.declared.Tables.{Tables}
@@ -17,8 +18,23 @@ use Rattle.table.specs.declared.Settings.{Settings}
 use Rattle.table.specs.Phases.{kindOf, entryOf, isMode}
 use Rattle.station.specs.Sorting.{sortOf}
 use Rattle.station.specs.Acting.{Outcome, quiet}
-use Rattle.station.specs.Stepping.{outputRoom, storeRoom, isLate, sorted, timed, checked}
+use Rattle.station.specs.Stepping.{outputRoom, storeRoom, isLate, isReset, sorted, timed, checked, stepOf}
+use Rattle.station.specs.Inner.{Timed, Gated}
+use Rattle.station.specs.declared.Call.{Call}
 use Rattle.station.specs.declared.Event.{Event}
+use Rattle.station.specs.declared.gate.Gate.{Gate}
+use Rattle.station.specs.declared.gate.Gate.the-variants.{Open, Shut}
+
+-- ---- reset
+
+module _ (p : Phase) (set : Settings) (own run : List ℕ) (event : Event) (m : List ℕ) (time outSize storeSize : ℕ) where
+  pub step-reset : isReset event ≡ true → stepOf p set own run event m time outSize storeSize ≡ quiet 0 (Initial time)
+  unfolding stepOf
+  step-reset e = rw e
+
+  pub step-checked : isReset event ≡ false → stepOf p set own run event m time outSize storeSize ≡ checked p set own run event m time outSize storeSize
+  unfolding stepOf
+  step-checked e = rw e
 
 -- ---- the time, and Mode
 
@@ -88,3 +104,12 @@ module _ (p : Phase) (set : Settings) (own run : List ℕ) (event : Event) (m : 
         go true true false = refl
         go true false c = refl
         go false b c = refl
+
+-- ---- the gate
+
+-- behind good tables and buffers with room, the time decides
+pub gated-by : (call : Call) (own run : List ℕ) (outSize storeSize : ℕ) (g : Gate) → Timed (call .phase) (call .time) g
+    → ((m : List ℕ) → stepOf (call .phase) (call .settings) own run (call .event) m (call .time) outSize storeSize ≡ timed (call .phase) (call .settings) own run (call .event) m (call .time))
+    → goodField own ≡ true → goodWishes run ≡ true → outputRoom ≤ outSize → storeRoom ≤ storeSize → Gated call own run outSize storeSize g
+gated-by call own run outSize storeSize Open t e table wishes out store = (λ m. e m ∙ t (call .settings) own run (call .event) m, table, wishes, out, store)
+gated-by call own run outSize storeSize (Shut told next) t e table wishes out store = λ m. e m ∙ t (call .settings) own run (call .event) m

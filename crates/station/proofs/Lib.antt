@@ -2,5 +2,5 @@ pub mod Sendings
 pub mod FarSide
 pub mod Needing
 pub mod Gating
-pub mod Saying
+pub mod Planning
 pub mod StepUnique

@@ -39,12 +39,12 @@ use Rattle.table.specs.declared.Phase.{Phase}
 use Rattle.table.specs.declared.Settings.{Settings}
 use Rattle.station.specs.declared.Offer.{Offer}
 use Rattle.station.specs.declared.FarOffer.{FarOffer}
-use Rattle.station.specs.declared.Stepped.{Stepped}
-use Rattle.station.specs.declared.Sends.the-variants.{NoSignal}
+use Rattle.station.specs.declared.sending.Outgoing.{Outgoing}
+use Rattle.station.specs.declared.sending.Outgoing.the-variants as outgoing
 use Rattle.station.specs.Sending.{codeIf, offerCodes, sentField, sentAck, sentNak, listOffer, sentList, modeOffer, sentMode}
 use Rattle.station.specs.Acting.{Outcome, sends}
 use Rattle.station.specs.Stepping.{stepTold}
-use Rattle.station.specs.Inner.{Lies, Says}
+use Rattle.station.specs.Inner.{Lies, Few, octetsOf, CanPut}
 
 -- ---- how it is laid into the output
 
@@ -166,50 +166,7 @@ pub mode-offered : (set : Settings) (far : FarOffer) (eight short some : Bool) �
     → eight ≡ both some (far .v8) → _≡_ {A = Offer} (record { v8 = eight; «short_v8» = short; ack = set .ack }) (modeOffer set far)
 mode-offered set far eight short some s t e = rw (e, t, both-both (not short) (set .v8) (far .v8), s)
 
--- ---- the answer
-
--- an answer with the lengths of what is sent and stored, and the output with what is sent, are those of the outcome
-pub said : (o : Outcome) {out₀ out₁ : List ℕ} {r : Stepped} (first second stored : ℕ)
-    → stepTold r ≡ record { no = o .told; signal = o .signal; first = first; second = second; stored = stored; next = o .next }
-    → first ≡ length (o .first) → second ≡ length (o .second) → length (o .stored) ≡ stored → out₁ ≡ put (o .first ++ o .second) out₀ → Says o out₀ r out₁
-said o first second stored e f s t p = record { reply = e ∙ rw (f, s, ← t); output = p }
-
--- the same where one message is sent
-pub said-one : (sent xs : List ℕ) (next : Phase) {out₀ out₁ : List ℕ} {r : Stepped} (first stored : ℕ)
-    → stepTold r ≡ record { no = 0; signal = NoSignal; first = first; second = 0; stored = stored; next = next }
-    → first ≡ length sent → length xs ≡ stored → out₁ ≡ put sent out₀ → Says (sends sent [] xs next) out₀ r out₁
-said-one sent xs next first stored e f t p = said (sends sent [] xs next) first 0 stored e f refl t (rw (append-nil sent) p)
-
--- and where none is
-pub said-none : (o : Outcome) {out : List ℕ} {r : Stepped} (stored : ℕ)
-    → stepTold r ≡ record { no = o .told; signal = o .signal; first = 0; second = 0; stored = stored; next = o .next }
-    → o .first ≡ [] → o .second ≡ [] → length (o .stored) ≡ stored → Says o out r out
-said-none o {out} stored e f s t = said o 0 0 stored e (ap length (sym f)) (ap length (sym s)) t (rw (f, s) (sym (put-nil out)))
-
--- what is said for one choice is said for the same one by another name
-pub said-same : {A : Type 0} (F : A → Outcome) {a b : A} {out₀ out₁ : List ℕ} {r : Stepped} → a ≡ b → Says (F b) out₀ r out₁ → Says (F a) out₀ r out₁
-said-same F e s = rw e s
-
--- ---- the CL or CLR of a table
-
-module _ (kind : ℕ) (set : Settings) (own : List ℕ) where
-  -- the message put with the settings' offer is the list
-  pub list-put : (d : List ℕ) {offer : Offer} {o : List ℕ} {r : ℕ} → offer ≡ listOffer set
-      → let m = sentField kind offer (standardCodes own) in (r ≡ length m) × (o ≡ put m d)
-      → (r ≡ length (sentList kind set own)) × (o ≡ put (sentList kind set own) d)
-  unfolding sentList
-  list-put d e h = rw e at h
-
-  -- and it has at most 31 octets
-  pub list-short : kind ≤ 3 → AreOctets own → goodField own ≡ true → length (sentList kind set own) ≤ 31
-  unfolding sentList
-  list-short k o g = sent-short kind (listOffer set) own k o g
-
 -- ---- the MS of a choice
-
--- what lies in the wishes does so by another name
-pub lies-same : (wishes : List ℕ) {a b : Choice} → a ≡ b → Lies wishes (choiceTold a) → Lies wishes (choiceTold b)
-lies-same wishes e h = rw e at h
 
 -- a choice from good wishes lies in them and is good
 pub choice-lies : (own : List ℕ) (far : Far) (wishes : List ℕ) (r : Choice) → goodWishes wishes ≡ true → choiceTold r ≡ choice own far wishes → Lies wishes (choiceTold r)
@@ -218,6 +175,11 @@ choice-lies own far wishes (Chosen p) g e =
     let w = good-fields mostWishes wishes g (f .wish) (first-member f) in
     (f .inside, rw (f .field) (both-true (goodField (f .wish .field)) _ w .0), f .few)
 choice-lies own far wishes NoChoice g e = tt
+
+-- and then its number is small
+pub lies-few : (wishes : List ℕ) (r : Choice) → Lies wishes (choiceTold r) → Few (choiceTold r)
+lies-few wishes (Chosen p) h = h .2
+lies-few wishes NoChoice h = tt
 
 -- from where it begins to where it ends it has its length
 part-size : (at n : ℕ) → at + n - at ≡ n
@@ -233,15 +195,17 @@ part-octets at n wishes o h i k =
     let l : i < n = omega arith in
     rw (getD-take, getD-drop) (o (at + i) (omega arith))
 
-module _ (set : Settings) (far : FarOffer) (wishes : List ℕ) (p : Pick) where
-  -- the message put with its field is its MS
-  pub mode-put : (d : List ℕ) {offer : Offer} {o : List ℕ} {r : ℕ} → offer ≡ modeOffer set far
-      → let m = sentField 1 offer (standardCodes (take (p .at + p .length - p .at) (drop (p .at) wishes))) in (r ≡ length m) × (o ≡ put m d)
-      → (r ≡ length (sentMode set far wishes p)) × (o ≡ put (sentMode set far wishes p) d)
-  unfolding sentMode
-  mode-put d e h = rw (e, part-size (p .at) (p .length)) at h
+-- the message put with that part is its MS
+pub mode-put : (offer : Offer) (at n : ℕ) (wishes d : List ℕ) {o : List ℕ} {r : ℕ}
+    → let m = sentField 1 offer (standardCodes (take (at + n - at) (drop at wishes))) in (r ≡ length m) × (o ≡ put m d)
+    → let m = sentField 1 offer (standardCodes (take n (drop at wishes))) in (r ≡ length m) × (o ≡ put m d)
+mode-put offer at n wishes d h = rw (part-size at n) at h
 
-  -- and it has at most 31 octets
-  pub mode-short : AreOctets wishes → Lies wishes (choiceTold (Chosen p)) → length (sentMode set far wishes p) ≤ 31
-  unfolding sentMode
-  mode-short o l = sent-short 1 (modeOffer set far) (take (p .length) (drop (p .at) wishes)) (omega arith) (part-octets (p .at) (p .length) wishes o (l .0)) (l .1)
+-- ---- what can be put is short
+
+pub outgoing-short : (m : Outgoing) (own wishes : List ℕ) → AreOctets own → AreOctets wishes → CanPut m own wishes → length (octetsOf m own wishes) ≤ 31
+outgoing-short outgoing.Nothing own wishes o w h = omega arith
+outgoing-short (outgoing.Octet x) own wishes o w h = omega arith
+outgoing-short (outgoing.List kind offer) own wishes o w h = sent-short kind offer own (h .0) o (h .1)
+outgoing-short (outgoing.Mode offer at n) own wishes o w h =
+    sent-short 1 offer (take n (drop at wishes)) (omega arith) (part-octets at n wishes w (h .0)) (h .1)

@@ -1,41 +1,34 @@
-// What the table's acts do: with what was heard of the far side, the own table and the wishes to what is sent and stored.
+// What the table's acts do: from what was heard of the far side, the own table and the wishes to what is to be sent and stored.
 ghost use mathlib.Core.Path.{_≡_};
 ghost use mathlib.Core.Bool.{true};
-ghost use mathlib.Core.List.{[]};
-ghost use Prim.Native.Nat.{_+_, _≤_, _<_};
-ghost use lib.ListN.{length};
-ghost use Rattle.octets.specs.Lay.{put};
+ghost use Prim.Native.Nat.{_+_, _<_};
 ghost use Rattle.tree.specs.Codes.{fieldBase};
 ghost use Rattle.tree.specs.Fields.{codesIn, isIn};
 ghost use Rattle.message.specs.Kinds.{hasFields, typeOf};
 ghost use Rattle.message.specs.Reader.{listRoom, standardAt, messageCodes, readMessage, accepted};
 ghost use Rattle.good.specs.Good.{goodField};
-ghost use Rattle.strike.specs.Rewriting.{kept};
 ghost use Rattle.choice.specs.Wishes.{wishesOf, goodWishes};
-ghost use Rattle.choice.specs.Choosing.{unheard, choice};
+ghost use Rattle.choice.specs.Choosing.{choiceTold};
 ghost use Rattle.choice.specs.Judging.{verdict};
 ghost use Rattle.table.specs.Phases.{wishOf, ackOf};
 ghost use Rattle.table.specs.Inner.{needsField};
-ghost use Rattle.station.specs.Sending.{noOffer};
+ghost use Rattle.station.specs.Sending.{listOffer, modeOffer};
 ghost use Rattle.station.specs.Sorting.{sortOf};
-ghost use Rattle.station.specs.Acting.{quiet, signals, waiting, farOffer, proposes, takes, judges, does};
-ghost use Rattle.station.specs.Stepping.{sorted, stepTold, stepReply, Did};
-ghost use Rattle.station.specs.Inner.{Standing, Says};
+ghost use Rattle.station.specs.Acting.{waiting, farOffer, takes, judges, does};
+ghost use Rattle.station.specs.Stepping.{sorted};
+ghost use Rattle.station.specs.Inner.{Standing, Few, planning, proposed, thenMs, Plans, PlansAny, PlansFirst};
 use super::Call;
 use super::FarOffer;
+use super::Offer;
 use super::Sends;
-use super::Stepped;
 use super::Told;
-use super::answer;
 use super::hearing::Hearing;
 use super::hearing::hear;
-use super::sending::Bid;
+use super::sending::Outgoing;
+use super::sending::Plan;
 use super::sending::REVISION_2;
-use super::sending::propose;
-use super::sending::propose_behind;
-use super::sending::send_list;
-use super::sending::send_octet;
-use super::silent;
+use super::sending::Storing;
+use choice::Choice;
 use choice::Verdict;
 use choice::first_common;
 use choice::first_ready;
@@ -47,7 +40,6 @@ use message::NAK_1;
 use message::NAK_2;
 use message::NAK_3;
 use names::Keep;
-use strike::rewrite_field;
 use table::Act;
 use table::After;
 use table::Phase;
@@ -74,21 +66,119 @@ const SENT_NAK_2: u8 = REVISION_2 + NAK_2;
 
 const SENT_NAK_3: u8 = REVISION_2 + NAK_3;
 
-// An act that is due: in which phase, how the station is set, where the standard field of the message heard is, and the time.
-pub(crate) struct Due {
-    pub(crate) act: Act,
-    pub(crate) phase: Phase,
-    pub(crate) settings: Settings,
-    pub(crate) standard: usize,
-    pub(crate) time: u64,
+// Something is told, and no more.
+fn tells(told: Told, next: Phase) -> Plan
+    ensures { λ r. ⌜ r ≡ planning told Sends.NoSignal Outgoing.Nothing Storing.Leave next ⌝ }
+{
+    Plan {
+        told,
+        signal: Sends::NoSignal,
+        first: Outgoing::Nothing,
+        second: Outgoing::Nothing,
+        storing: Storing::Leave,
+        next,
+    }
 }
 
-// A list that was heard: what follows it, how the station is set, where its standard field is, and the time.
-pub(crate) struct Taken {
-    pub(crate) after: After,
-    pub(crate) settings: Settings,
-    pub(crate) standard: usize,
-    pub(crate) time: u64,
+// A signal is sent.
+fn signals(signal: Signal, next: Phase) -> Plan
+    ensures { λ r. ⌜ r ≡ planning Told.Done (Sends.Signal signal) Outgoing.Nothing Storing.Leave next ⌝ }
+{
+    Plan {
+        told: Told::Done,
+        signal: Sends::Signal(signal),
+        first: Outgoing::Nothing,
+        second: Outgoing::Nothing,
+        storing: Storing::Leave,
+        next,
+    }
+}
+
+// One message is sent, or none.
+fn sends(message: Outgoing, storing: Storing, next: Phase) -> Plan
+    ensures { λ r. ⌜ r ≡ planning Told.Done Sends.NoSignal message storing next ⌝ }
+{
+    Plan {
+        told: Told::Done,
+        signal: Sends::NoSignal,
+        first: message,
+        second: Outgoing::Nothing,
+        storing,
+        next,
+    }
+}
+
+// A CL or a CLR with the own table, which offers what the settings say.
+fn list_of(kind: u8, settings: Settings) -> Outgoing
+    ensures { λ r. ⌜ r ≡ Outgoing.List kind (listOffer settings) ⌝ }
+{
+    let offer = Offer {
+        v8: settings.v8,
+        short_v8: settings.short_v8,
+        ack: false,
+    };
+    Outgoing::List(kind, offer)
+}
+
+// A CL or a CLR is sent, and nothing stored.
+fn send_list(kind: u8, settings: Settings, next: Phase) -> Plan
+    ensures { λ r. ⌜ r ≡ planning Told.Done Sends.NoSignal (Outgoing.List kind (listOffer settings)) Storing.Leave next ⌝ }
+{
+    sends(list_of(kind, settings), Storing::Leave, next)
+}
+
+// An MS offers Short V.8 if both do, else V.8 if both do.
+fn mode_offer(settings: Settings, far: FarOffer) -> Offer
+    ensures { λ r. ⌜ r ≡ modeOffer settings far ⌝ }
+{
+    let short_v8 = settings.short_v8 && far.short_v8;
+    let v8 = !short_v8 && settings.v8 && far.v8;
+    Offer {
+        v8,
+        short_v8,
+        ack: settings.ack,
+    }
+}
+
+// The MS of a choice, behind a CL or alone; nothing at all where there is none.
+fn propose(
+    found: Choice,
+    behind: bool,
+    settings: Settings,
+    far: FarOffer,
+    storing: Storing,
+    time: u64,
+) -> Plan
+    requires { ⌜ Few (choiceTold found) ⌝ }
+    ensures { λ r. ⌜ r ≡ proposed found behind settings far storing time ⌝ }
+{
+    match found {
+        Choice::Chosen(chosen) => {
+            let number = chosen.number as u8;
+            let offer = mode_offer(settings, far);
+            let mode = Outgoing::Mode(offer, chosen.at, chosen.length);
+            let next = Phase::Proposed(time, number, settings.ack);
+            if behind {
+                return Plan {
+                    told: Told::Done,
+                    signal: Sends::NoSignal,
+                    first: list_of(CL, settings),
+                    second: mode,
+                    storing,
+                    next,
+                };
+            }
+            sends(mode, storing, next)
+        }
+        Choice::NoChoice => Plan {
+            told: Told::NothingToPropose,
+            signal: Sends::NoSignal,
+            first: Outgoing::Nothing,
+            second: Outgoing::Nothing,
+            storing,
+            next: Phase::Initial(time),
+        },
+    }
 }
 
 // Whether a message with fields has a position of the first octet of its identification field.
@@ -110,119 +200,114 @@ fn far_offer(field: &[u8]) -> FarOffer
     }
 }
 
-// Stores what is kept of the standard field of a message, in minimal form.
-fn store_field(field: &[u8], standard: usize, keep: Keep, store: &mut [u8]) -> usize
-    requires { ⌜ Standing (now field) standard × (64 ≤ length (now store)) ⌝ }
-    ensures { λ r. ⌜ (r ≡ length (kept keep Field.Standard (now (field .entry)) (standardAt (now (field .entry))))) × (now (store .exit) ≡ put (kept keep Field.Standard (now (field .entry)) (standardAt (now (field .entry)))) (now (store .entry))) ⌝ }
+// A list was heard: the first ready wish that both can do is proposed, behind a CL or alone.
+fn propose_common(
+    behind: bool,
+    call: Call,
+    standard: usize,
+    own: &[u8],
+    wishes: &[u8],
+    field: &[u8],
+) -> Plan
+    requires { ⌜ Standing (now field) standard × (goodField (now own) ≡ true) × (goodWishes (now wishes) ≡ true) ⌝ }
+    ensures { λ r. ⌜ Plans (takes (thenMs behind) (call .settings) (now (own .entry)) (now (wishes .entry)) (now (field .entry)) (call .time)) r (now (own .entry)) (now (wishes .entry)) (now (field .entry)) ⌝ }
 {
-    rewrite_field(field, standard, Field::Standard, keep, store)
+    let settings = call.settings;
+    let storing = Storing::Kept(Keep::Named, standard);
+    let found = first_common(own, wishes, field, standard);
+    propose(
+        found,
+        behind,
+        settings,
+        far_offer(field),
+        storing,
+        call.time,
+    )
 }
 
 // A list was heard: it is stored, and then comes what the table says.
 fn take_list(
-    taken: Taken,
+    after: After,
+    call: Call,
+    standard: usize,
     own: &[u8],
     wishes: &[u8],
     field: &[u8],
-    out: &mut [u8],
-    store: &mut [u8],
-) -> Stepped
-    requires { ⌜ Standing (now field) (taken .standard) × (goodField (now own) ≡ true) × (goodWishes (now wishes) ≡ true) × (128 ≤ length (now out)) × (64 ≤ length (now store)) ⌝ }
-    ensures { λ r. ⌜ Did (takes (taken .after) (taken .settings) (now (own .entry)) (now (wishes .entry)) (now (field .entry)) (taken .time)) (now (out .entry)) (now (store .entry)) r (now (out .exit)) (now (store .exit)) ⌝ }
+) -> Plan
+    requires { ⌜ Standing (now field) standard × (goodField (now own) ≡ true) × (goodWishes (now wishes) ≡ true) ⌝ }
+    ensures { λ r. ⌜ Plans (takes after (call .settings) (now (own .entry)) (now (wishes .entry)) (now (field .entry)) (call .time)) r (now (own .entry)) (now (wishes .entry)) (now (field .entry)) ⌝ }
 {
-    let settings = taken.settings;
-    let standard = taken.standard;
-    let time = taken.time;
-    let after = taken.after;
-    let stored = store_field(field, standard, Keep::Named, store);
-    let bid = Bid {
-        settings,
-        far: far_offer(field),
-        stored,
-        time,
-    };
+    let settings = call.settings;
+    let time = call.time;
+    let storing = Storing::Kept(Keep::Named, standard);
     match after {
-        After::ThenMs => propose(first_common(own, wishes, field, standard), bid, wishes, out),
-        After::ThenClMs => propose_behind(
-            first_common(own, wishes, field, standard),
-            bid,
-            own,
-            wishes,
-            out,
-        ),
-        After::ThenCl => send_list(CL, settings, own, stored, Phase::Listed(time), out),
-        After::ThenHalf => answer(Told::Done, Sends::NoSignal, 0, 0, stored, Phase::Half(time)),
+        After::ThenMs => propose_common(false, call, standard, own, wishes, field),
+        After::ThenClMs => propose_common(true, call, standard, own, wishes, field),
+        After::ThenCl => sends(list_of(CL, settings), storing, Phase::Listed(time)),
+        After::ThenHalf => sends(Outgoing::Nothing, storing, Phase::Half(time)),
     }
 }
 
 // An MS was accepted: it is stored, and ACK(1) is sent if it asks for that.
-fn accept_mode(
-    field: &[u8],
-    standard: usize,
-    time: u64,
-    out: &mut [u8],
-    store: &mut [u8],
-) -> Stepped
-    requires { ⌜ Standing (now field) standard × (128 ≤ length (now out)) × (64 ≤ length (now store)) ⌝ }
-    ensures { λ r. ⌜ Did (judges 0 (now (field .entry)) time) (now (out .entry)) (now (store .entry)) r (now (out .exit)) (now (store .exit)) ⌝ }
+fn accept_mode(field: &[u8], standard: usize, time: u64) -> Plan
+    requires { ⌜ Standing (now field) standard ⌝ }
+    ensures { λ r. ⌜ PlansAny (judges 0 (now (field .entry)) time) r (now (field .entry)) ⌝ }
 {
-    let stored = store_field(field, standard, Keep::All, store);
+    let storing = Storing::Kept(Keep::All, standard);
     if says(field, ASKS_ACK) {
-        return send_octet(SENT_ACK_1, stored, Phase::Mode(time, 0, true), out);
+        return sends(
+            Outgoing::Octet(SENT_ACK_1),
+            storing,
+            Phase::Mode(time, 0, true),
+        );
     }
-    answer(
-        Told::Done,
-        Sends::NoSignal,
-        0,
-        0,
-        stored,
-        Phase::Mode(time, 0, false),
-    )
+    sends(Outgoing::Nothing, storing, Phase::Mode(time, 0, false))
+}
+
+// A NAK is sent.
+fn refuse(octet: u8, time: u64) -> Plan
+    ensures { λ r. ⌜ r ≡ planning Told.Done Sends.NoSignal (Outgoing.Octet octet) Storing.Leave (Phase.Initial time) ⌝ }
+{
+    sends(Outgoing::Octet(octet), Storing::Leave, Phase::Initial(time))
 }
 
 // An MS was heard: the verdict.
-fn judge(
-    wishes: &[u8],
-    field: &[u8],
-    standard: usize,
-    time: u64,
-    out: &mut [u8],
-    store: &mut [u8],
-) -> Stepped
-    requires { ⌜ Standing (now field) standard × (128 ≤ length (now out)) × (64 ≤ length (now store)) ⌝ }
-    ensures { λ r. ⌜ Did (judges (verdict (codesIn Field.Standard (now (field .entry)) (standardAt (now (field .entry)))) (wishesOf (now (wishes .entry)))) (now (field .entry)) time) (now (out .entry)) (now (store .entry)) r (now (out .exit)) (now (store .exit)) ⌝ }
+fn judge(wishes: &[u8], field: &[u8], standard: usize, time: u64) -> Plan
+    requires { ⌜ Standing (now field) standard ⌝ }
+    ensures { λ r. ⌜ PlansAny (judges (verdict (codesIn Field.Standard (now (field .entry)) (standardAt (now (field .entry)))) (wishesOf (now (wishes .entry)))) (now (field .entry)) time) r (now (field .entry)) ⌝ }
 {
     match judge_mode(wishes, field, standard) {
-        Verdict::Accepted => accept_mode(field, standard, time, out, store),
-        Verdict::NotReady => send_octet(SENT_NAK_2, 0, Phase::Initial(time), out),
-        Verdict::NoFit => send_octet(SENT_NAK_3, 0, Phase::Initial(time), out),
+        Verdict::Accepted => accept_mode(field, standard, time),
+        Verdict::NotReady => refuse(SENT_NAK_2, time),
+        Verdict::NoFit => refuse(SENT_NAK_3, time),
     }
 }
 
 // With no far list, the first ready wish is sent.
-fn propose_first(settings: Settings, wishes: &[u8], time: u64, out: &mut [u8]) -> Stepped
-    requires { ⌜ (goodWishes (now wishes) ≡ true) × (64 ≤ length (now out)) ⌝ }
-    ensures { λ r. ⌜ Says (proposes (choice [] unheard (now (wishes .entry))) settings noOffer (now (wishes .entry)) [] time) (now (out .entry)) r (now (out .exit)) ⌝ }
+fn propose_first(settings: Settings, wishes: &[u8], time: u64) -> Plan
+    requires { ⌜ goodWishes (now wishes) ≡ true ⌝ }
+    ensures { λ r. ⌜ PlansFirst settings time (now (wishes .entry)) r ⌝ }
 {
     let far = FarOffer {
         v8: false,
         short_v8: false,
     };
-    let bid = Bid {
+    propose(
+        first_ready(wishes),
+        false,
         settings,
         far,
-        stored: 0,
+        Storing::Leave,
         time,
-    };
-    propose(first_ready(wishes), bid, wishes, out)
+    )
 }
 
-// The mode that was proposed is agreed.
-fn agree(phase: Phase, time: u64) -> Stepped
-    ensures { λ r. ⌜ stepTold r ≡ stepReply (quiet 0 (Phase.Mode time (wishOf phase) (ackOf phase))) ⌝ }
+// The phase of the mode that was proposed and is agreed.
+fn agreed(phase: Phase, time: u64) -> Phase
+    ensures { λ r. ⌜ r ≡ Phase.Mode time (wishOf phase) (ackOf phase) ⌝ }
 {
     let carried = carried_by(phase);
-    silent(Told::Done, Phase::Mode(time, carried.wish, carried.ack))
+    Phase::Mode(time, carried.wish, carried.ack)
 }
 
 // The phase that waits for the answer to a signal.
@@ -237,65 +322,34 @@ fn waiting_for(signal: Signal, time: u64) -> Phase
     }
 }
 
-// Sends a signal.
-fn send_signal(signal: Signal, next: Phase) -> Stepped
-    ensures { λ r. ⌜ stepTold r ≡ stepReply (signals signal next) ⌝ }
+// What the table's act does; where the standard field of the message heard is matters only to an act that looks at one.
+fn perform(act: Act, call: Call, standard: usize, own: &[u8], wishes: &[u8], field: &[u8]) -> Plan
+    requires { ⌜ (needsField act ≡ true → Standing (now field) standard) × (goodField (now own) ≡ true) × (goodWishes (now wishes) ≡ true) ⌝ }
+    ensures { λ r. ⌜ Plans (does act (call .phase) (call .settings) (now (own .entry)) (now (wishes .entry)) (now (field .entry)) (call .time)) r (now (own .entry)) (now (wishes .entry)) (now (field .entry)) ⌝ }
 {
-    answer(Told::Done, Sends::Signal(signal), 0, 0, 0, next)
-}
-
-// Does what the table says.
-fn perform(
-    due: Due,
-    own: &[u8],
-    wishes: &[u8],
-    field: &[u8],
-    out: &mut [u8],
-    store: &mut [u8],
-) -> Stepped
-    requires { ⌜ (needsField (due .act) ≡ true → Standing (now field) (due .standard)) × (goodField (now own) ≡ true) × (goodWishes (now wishes) ≡ true) × (128 ≤ length (now out)) × (64 ≤ length (now store)) ⌝ }
-    ensures { λ r. ⌜ Did (does (due .act) (due .phase) (due .settings) (now (own .entry)) (now (wishes .entry)) (now (field .entry)) (due .time)) (now (out .entry)) (now (store .entry)) r (now (out .exit)) (now (store .exit)) ⌝ }
-{
-    let act = due.act;
-    let phase = due.phase;
-    let settings = due.settings;
-    let standard = due.standard;
-    let time = due.time;
+    let phase = call.phase;
+    let settings = call.settings;
+    let time = call.time;
     match act {
-        Act::NoRow => silent(Told::NotInTable, phase),
-        Act::SendSignal(signal) => send_signal(signal, waiting_for(signal, time)),
-        Act::CounterMrD => send_signal(Signal::MrD, Phase::Counter(time)),
-        Act::Propose => propose_first(settings, wishes, time, out),
-        Act::SendCl => send_list(CL, settings, own, 0, Phase::Listed(time), out),
-        Act::SendClr => send_list(CLR, settings, own, 0, Phase::Traded(time), out),
-        Act::PairClr => send_list(CLR, settings, own, 0, Phase::Pair(time), out),
-        Act::Take(after) => {
-            let taken = Taken {
-                after,
-                settings,
-                standard,
-                time,
-            };
-            take_list(taken, own, wishes, field, out, store)
-        }
-        Act::Judge => judge(wishes, field, standard, time, out, store),
-        Act::Agree => agree(phase, time),
-        Act::GiveUp => silent(Told::Done, Phase::Initial(time)),
-        Act::SendNak1 => send_octet(SENT_NAK_1, 0, Phase::Initial(time), out),
+        Act::NoRow => tells(Told::NotInTable, phase),
+        Act::SendSignal(signal) => signals(signal, waiting_for(signal, time)),
+        Act::CounterMrD => signals(Signal::MrD, Phase::Counter(time)),
+        Act::Propose => propose_first(settings, wishes, time),
+        Act::SendCl => send_list(CL, settings, Phase::Listed(time)),
+        Act::SendClr => send_list(CLR, settings, Phase::Traded(time)),
+        Act::PairClr => send_list(CLR, settings, Phase::Pair(time)),
+        Act::Take(after) => take_list(after, call, standard, own, wishes, field),
+        Act::Judge => judge(wishes, field, standard, time),
+        Act::Agree => tells(Told::Done, agreed(phase, time)),
+        Act::GiveUp => tells(Told::Done, Phase::Initial(time)),
+        Act::SendNak1 => refuse(SENT_NAK_1, time),
     }
 }
 
-// The event by the table, or 9.
-pub(crate) fn sorted_step(
-    call: Call,
-    own: &[u8],
-    wishes: &[u8],
-    field: &[u8],
-    out: &mut [u8],
-    store: &mut [u8],
-) -> Stepped
-    requires { ⌜ (goodField (now own) ≡ true) × (goodWishes (now wishes) ≡ true) × (128 ≤ length (now out)) × (64 ≤ length (now store)) ⌝ }
-    ensures { λ r. ⌜ Did (sorted (sortOf (call .event) (now (field .entry))) (call .phase) (call .settings) (now (own .entry)) (now (wishes .entry)) (now (field .entry)) (call .time)) (now (out .entry)) (now (store .entry)) r (now (out .exit)) (now (store .exit)) ⌝ }
+// What is to be done about an event that the gate let through.
+pub(crate) fn decide(call: Call, own: &[u8], wishes: &[u8], field: &[u8]) -> Plan
+    requires { ⌜ (goodField (now own) ≡ true) × (goodWishes (now wishes) ≡ true) ⌝ }
+    ensures { λ r. ⌜ Plans (sorted (sortOf (call .event) (now (field .entry))) (call .phase) (call .settings) (now (own .entry)) (now (wishes .entry)) (now (field .entry)) (call .time)) r (now (own .entry)) (now (wishes .entry)) (now (field .entry)) ⌝ }
 {
     let phase = call.phase;
     let settings = call.settings;
@@ -305,15 +359,8 @@ pub(crate) fn sorted_step(
             let carried = carried_by(phase);
             let kind = carried.kind;
             let act = act_of(kind, settings, carried.ack, heard);
-            let due = Due {
-                act,
-                phase,
-                settings,
-                standard,
-                time: call.time,
-            };
-            perform(due, own, wishes, field, out, store)
+            perform(act, call, standard, own, wishes, field)
         }
-        Hearing::Unknown => silent(Told::UnknownType, phase),
+        Hearing::Unknown => tells(Told::UnknownType, phase),
     }
 }

@@ -1,16 +1,11 @@
-// The gate: refusals 1 to 6, and 10 for every event in Mode.
+// The gate: reset, refusals 1 to 6, and 10 for every event in Mode. Nothing that is lent to be written is looked at but by its size.
 ghost use mathlib.Core.Path.{_≡_};
-ghost use mathlib.Core.Bool.{true};
 ghost use Prim.Native.Nat.{_≤_};
-ghost use lib.ListN.{length};
-ghost use Rattle.good.specs.Good.{goodField};
-ghost use Rattle.choice.specs.Wishes.{goodWishes};
-ghost use Rattle.station.specs.Stepping.{isLate, timed, checked, Did};
+ghost use Rattle.station.specs.Stepping.{isReset, isLate};
+ghost use Rattle.station.specs.Inner.{Timed, Gated};
 use super::Call;
-use super::Stepped;
+use super::Event;
 use super::Told;
-use super::acts::sorted_step;
-use super::silent;
 use choice::Tables;
 use choice::check_tables;
 use table::Kind;
@@ -27,6 +22,26 @@ const STORE_ROOM: usize = 64;
 // How long a phase other than Initial and Mode may last, in milliseconds.
 const LONGEST: u64 = 5000;
 
+// Whether the event goes on to the table; else what is told, and the next phase.
+pub(crate) enum Gate {
+    Open,
+    Shut(Told, Phase),
+}
+
+// Whether an event is the reset.
+fn is_reset(event: Event) -> bool
+    ensures { λ r. ⌜ r ≡ isReset event ⌝ }
+{
+    match event {
+        Event::Start(_) => false,
+        Event::Signal(_) => false,
+        Event::Field => false,
+        Event::InvalidFrame => false,
+        Event::AnswerTone => false,
+        Event::Reset => true,
+    }
+}
+
 // Whether a phase has lasted too long.
 fn is_late(kind: Kind, entry: u64, time: u64) -> bool
     requires { ⌜ entry ≤ time ⌝ }
@@ -38,56 +53,50 @@ fn is_late(kind: Kind, entry: u64, time: u64) -> bool
     LONGEST < time - entry
 }
 
-// Refusals 5, 6 and 10 in Mode, and then the event.
-fn timed_step(
-    call: Call,
-    own: &[u8],
-    wishes: &[u8],
-    field: &[u8],
-    out: &mut [u8],
-    store: &mut [u8],
-) -> Stepped
-    requires { ⌜ (goodField (now own) ≡ true) × (goodWishes (now wishes) ≡ true) × (128 ≤ length (now out)) × (64 ≤ length (now store)) ⌝ }
-    ensures { λ r. ⌜ Did (timed (call .phase) (call .settings) (now (own .entry)) (now (wishes .entry)) (call .event) (now (field .entry)) (call .time)) (now (out .entry)) (now (store .entry)) r (now (out .exit)) (now (store .exit)) ⌝ }
+// Refusals 5, 6 and 10 in Mode.
+fn timed_gate(phase: Phase, time: u64) -> Gate
+    ensures { λ r. ⌜ Timed phase time r ⌝ }
 {
-    let phase = call.phase;
-    let time = call.time;
     let carried = carried_by(phase);
     let kind = carried.kind;
     if time < carried.entry {
-        return silent(Told::TimeBefore, phase);
+        return Gate::Shut(Told::TimeBefore, phase);
     }
     if is_late(kind, carried.entry, time) {
-        return silent(Told::TimedOut, Phase::Initial(time));
+        return Gate::Shut(Told::TimedOut, Phase::Initial(time));
     }
     if is_mode(kind) {
-        return silent(Told::NotInTable, phase);
+        return Gate::Shut(Told::NotInTable, phase);
     }
-    sorted_step(call, own, wishes, field, out, store)
+    Gate::Open
 }
 
-// Refusals 1 to 4, and then the time.
-pub(crate) fn checked_step(
+// Reset, refusals 1 to 4, and then the time.
+pub(crate) fn checked_gate(
     call: Call,
     own: &[u8],
     wishes: &[u8],
-    field: &[u8],
-    out: &mut [u8],
-    store: &mut [u8],
-) -> Stepped
-    ensures { λ r. ⌜ Did (checked (call .phase) (call .settings) (now (own .entry)) (now (wishes .entry)) (call .event) (now (field .entry)) (call .time) (length (now (out .entry))) (length (now (store .entry)))) (now (out .entry)) (now (store .entry)) r (now (out .exit)) (now (store .exit)) ⌝ }
+    out_size: usize,
+    store_size: usize,
+) -> Gate
+    ensures { λ r. ⌜ Gated call (now (own .entry)) (now (wishes .entry)) «out_size» «store_size» r ⌝ }
 {
     let phase = call.phase;
-    if out.len() < OUTPUT_ROOM {
-        return silent(Told::BadLent, phase);
+    let time = call.time;
+    let event = call.event;
+    if is_reset(event) {
+        return Gate::Shut(Told::Done, Phase::Initial(time));
     }
-    if store.len() < STORE_ROOM {
-        return silent(Told::BadLent, phase);
+    if out_size < OUTPUT_ROOM {
+        return Gate::Shut(Told::BadLent, phase);
+    }
+    if store_size < STORE_ROOM {
+        return Gate::Shut(Told::BadLent, phase);
     }
     match check_tables(own, wishes) {
-        Tables::Good => timed_step(call, own, wishes, field, out, store),
-        Tables::BadOwn => silent(Told::BadOwn, phase),
-        Tables::BadWishes => silent(Told::BadWishes, phase),
-        Tables::Outside => silent(Told::Outside, phase),
+        Tables::Good => timed_gate(phase, time),
+        Tables::BadOwn => Gate::Shut(Told::BadOwn, phase),
+        Tables::BadWishes => Gate::Shut(Told::BadWishes, phase),
+        Tables::Outside => Gate::Shut(Told::Outside, phase),
     }
 }

@@ -1,11 +1,14 @@
 // The station (RULES, The station): one step for each event, from what is heard to the agreed mode. What is sent is written
 // into the output, the far side's standard field into the store; the state is a value that the caller keeps. A step goes through the
-// modules in this order: gate (refusals 1 to 6, and 10 in Mode), hearing (what the event is to the table), acts (what the table says is
-// done), sending (messages put into the output).
+// modules in this order: gate (reset, refusals 1 to 6, and 10 in Mode), hearing (what the event is to the table), acts (what the table says
+// is to be done: a plan), sending (the plan carried out: what is lent is written there alone).
 ghost use mathlib.Core.Path.{_≡_};
-ghost use Rattle.station.specs.Stepping.{toldNo, isReset, stepTold};
+ghost use Rattle.station.specs.Stepping.{toldNo, stepTold};
 ghost use Rattle.station.specs.Contracts.{TellsBegun, Steps};
-use gate::checked_step;
+use acts::decide;
+use gate::Gate;
+use gate::checked_gate;
+use sending::carry_out;
 use table::Phase;
 use table::Settings;
 use table::Signal;
@@ -116,20 +119,6 @@ pub(crate) fn silent(told: Told, phase: Phase) -> Stepped
     answer(told, Sends::NoSignal, 0, 0, 0, phase)
 }
 
-// Whether an event is the reset.
-fn is_reset(event: Event) -> bool
-    ensures { λ r. ⌜ r ≡ isReset event ⌝ }
-{
-    match event {
-        Event::Start(_) => false,
-        Event::Signal(_) => false,
-        Event::Field => false,
-        Event::InvalidFrame => false,
-        Event::AnswerTone => false,
-        Event::Reset => true,
-    }
-}
-
 // One step: the state, the settings, the own table, the wishes, the event with the information field heard, the time, the output and
 // the store. Reset is not checked at all.
 pub fn step(
@@ -145,9 +134,6 @@ pub fn step(
 ) -> Stepped
     ensures { λ r. ⌜ Steps state settings (now (own .entry)) (now (wishes .entry)) event (now (field .entry)) time (now (out .entry)) (now (store .entry)) r (now (out .exit)) (now (store .exit)) ⌝ }
 {
-    if is_reset(event) {
-        return silent(Told::Done, Phase::Initial(time));
-    }
     let phase = state.phase;
     let call = Call {
         phase,
@@ -155,5 +141,11 @@ pub fn step(
         event,
         time,
     };
-    checked_step(call, own, wishes, field, out, store)
+    match checked_gate(call, own, wishes, out.len(), store.len()) {
+        Gate::Open => {
+            let plan = decide(call, own, wishes, field);
+            carry_out(plan, own, wishes, field, out, store)
+        }
+        Gate::Shut(told, next) => silent(told, next),
+    }
 }

@@ -1,8 +1,7 @@
 -- `station::acts::judge` meets its contract, verdict by verdict.
 -- Assumes nothing.
-use mathlib.Core.List.{[]}
-use mathlib.Core.Path.{_≡_, refl, sym, ap}
-use Rattle.octets.proofs.Laying.{put-nil}
+use borrow.Author.Needs.{needs}
+use mathlib.Core.Path.{_≡_, refl, ap}
 use Rattle.tree.specs.Fields.{codesIn}
 use Rattle.tree.specs.declared.Field.the-variants.{Standard}
 use Rattle.message.specs.Reader.{standardAt}
@@ -10,35 +9,26 @@ use Rattle.meaning.specs.Writing.{messageOctets}
 use Rattle.choice.specs.Wishes.{wishesOf}
 use Rattle.choice.specs.Judging.{verdict, nakOf}
 use Rattle.choice.specs.declared.Verdict.{Verdict}
-use Rattle.station.proofs.FarSide.{did-of-any, verdict-there}
-use borrow.Author.Needs.{needs}
+use Rattle.station.proofs.FarSide.{verdict-there}
+use Rattle.station.proofs.Planning.{plans-one}
 use Rattle.station.proofs.acts.judge.Statement.{statement}
 use Rattle.station.proofs.acts.judge.Tie as tie
 
 -- the verdict is what was answered
 decided : (c : tie.After-judge-mode) (x : Verdict) → c .judge-mode .result ≡ x
-    → let a = c .before .before .before .before .before .args in verdict (codesIn Standard (a .field .now) (standardAt (a .field .now))) (wishesOf (a .wishes .now)) ≡ nakOf x
-decided c x q = let s = c .before .before .before .before .before in verdict-there (s .args .field .now) (s .args .wishes .now) (s .pre .0 .place) (c .judge-mode .ensures) (ap nakOf q)
+    → let a = c .before .before .before .args in verdict (codesIn Standard (a .field .now) (standardAt (a .field .now))) (wishesOf (a .wishes .now)) ≡ nakOf x
+decided c x q = let s = c .before .before .before in verdict-there (s .args .field .now) (s .args .wishes .now) (s .pre .place) (c .judge-mode .ensures) (ap nakOf q)
 
 returns : tie.Need-returns
-returns c =
-    let p = c .before .before .before .before in
-    let e = p .before .before .before in
-    rw (decided (e .before .before) _ (e .enum-told .given .1)) (p .accept-mode .ensures)
+returns c = let e = c .before in rw (decided (e .before .before) _ (e .enum-told .given .1)) (c .accept-mode .ensures)
 
 returns-2 : tie.Need-returns-2
 unfolding messageOctets
-returns-2 c =
-    let p = c .before .before in
-    let e = p .before .before in
-    rw (decided (e .before .before) _ (e .enum-told2 .given .1)) (did-of-any _ [] refl refl refl (sym (put-nil _)) (p .send-octet .ensures))
+returns-2 c = λ own run. let e = c .before in rw (decided (e .before .before) _ (e .enum-told2 .given .1)) (plans-one (c .refuse .ensures) tt tt refl)
 
 returns-3 : tie.Need-returns-3
 unfolding messageOctets
-returns-3 c =
-    let p = c .before .before in
-    let e = p .before .before in
-    rw (decided (e .before .before) _ (e .enum-told3 .given .1)) (did-of-any _ [] refl refl refl (sym (put-nil _)) (p .send-octet2 .ensures))
+returns-3 c = λ own run. let e = c .before in rw (decided (e .before .before) _ (e .enum-told3 .given .1)) (plans-one (c .refuse2 .ensures) tt tt refl)
 
 pub judge-spec : {M : Type 1} → statement M
 judge-spec =
@@ -51,10 +41,6 @@ judge-spec =
     (λ c κs. search needs)
     (λ c. search needs)
     (λ c κs. search needs)
-    (λ c. search needs)
-    (λ c. search needs)
     returns
-    (λ c. search needs)
     returns-2
-    (λ c. search needs)
     returns-3)

@@ -30,8 +30,8 @@ returns c =
     let s = b .before .before .before .before .before in
     let a = s .args in
     let o : AreOctets (a .standard .now) = λ i l. b .before .before .before .before .shared-slice-known .given i .fits in (
-      sym (sent-length (a .kind) (a .offer) (a .standard .now) (s .pre .1) o (s .pre .2)),
-      sent-laid (a .kind) (a .offer) (a .standard .now) (s .pre .1) o (s .pre .2) _ _ _ _ (a .out .now) _ _ (s .pre .3) (b .before .before .bit .ensures .0) (b .before .bit2 .ensures .0) (b .bit3 .ensures .0) refl refl (c .before .before .copy-front .ensures),
+      sym (sent-length (a .kind) (a .offer) (a .standard .now) (s .pre .0) o (s .pre .1)),
+      sent-laid (a .kind) (a .offer) (a .standard .now) (s .pre .0) o (s .pre .1) _ _ _ _ (a .out .now) _ _ (s .pre .2) (b .before .before .bit .ensures .0) (b .before .bit2 .ensures .0) (b .bit3 .ensures .0) refl refl (c .before .before .copy-front .ensures),
     )
 
 pub put-message-spec : {M : Type 1} → statement M

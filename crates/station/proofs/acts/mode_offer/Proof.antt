@@ -1,4 +1,4 @@
--- `station::sending::mode_offer` meets its contract: each `&&` is taken apart by the way control came.
+-- `station::acts::mode_offer` meets its contract: each `&&` is taken apart by the way control came.
 -- Assumes nothing.
 use mathlib.Core.Logic.{⊎-elim}
 use mathlib.Core.Path.{_≡_, refl}
@@ -7,8 +7,8 @@ use Rattle.octets.specs.Places.{both}
 use Rattle.station.specs.Sending.{modeOffer}
 use Rattle.station.specs.declared.Offer.{Offer}
 use Rattle.station.proofs.Sendings.{anded, cut-short, mode-offered}
-use Rattle.station.proofs.sending.mode_offer.Statement.{statement}
-use Rattle.station.proofs.sending.mode_offer.Tie as tie
+use Rattle.station.proofs.acts.mode_offer.Statement.{statement}
+use Rattle.station.proofs.acts.mode_offer.Tie as tie
 
 -- where all but the last `&&` is known
 offered : (c : tie.Joined2) (eight : Bool) → let a = c .before .before .args in
