@@ -2,8 +2,8 @@
 -- Assumes nothing.
 use Prim.Native.Nat.{ℕ}
 use mathlib.Core.Bool.{Bool, true, false}
-use mathlib.Core.List.{List, [], _++_}
-use mathlib.Core.Path.{_≡_, refl, sym, _∙_}
+use mathlib.Core.List.{List, _++_}
+use mathlib.Core.Path.{_≡_, refl, _∙_}
 use native.Mathlib.Omega.{arith}
 use lib.ListN.{length}
 use Rattle.octets.specs.Lay.{put}
@@ -42,7 +42,7 @@ module _ {own run m : List ℕ} {r : Plan} where
   pub plans-same : {o o′ : Outcome} → o ≡ o′ → Plans o r own run m → Plans o′ r own run m
   plans-same e p = rw e at p
 
-  -- a choice sent as MS, alone or behind a CL
+  -- a choice sent as MS, alone or after a CL
   module _ (found : Choice) (set : Settings) (far : FarOffer) (s : Storing) (time : ℕ) (l : Lies run (choiceTold found)) (k : CanStore s m) where
     pub plans-proposed : r ≡ proposed found false set far s time → Plans (proposes (choiceTold found) set far run (storedOf s m) time) r own run m
     unfolding sentMode
@@ -52,19 +52,19 @@ module _ {own run m : List ℕ} {r : Plan} where
         go (Chosen p) h e = plans-one e (h .0, h .1) k refl
         go NoChoice h e = plans-one e tt k refl
 
-    pub plans-behind : goodField own ≡ true → r ≡ proposed found true set far s time → Plans (proposesBehind (sentList cl set own) (choiceTold found) set far run (storedOf s m) time) r own run m
+    pub plans-after-cl : goodField own ≡ true → r ≡ proposed found true set far s time → Plans (proposesBehind (sentList cl set own) (choiceTold found) set far run (storedOf s m) time) r own run m
     unfolding sentMode sentList
-    plans-behind g e = rw e (go found l)
+    plans-after-cl g e = rw e (go found l)
       where
         go : (x : Choice) → Lies run (choiceTold x) → Plans (proposesBehind (sentList cl set own) (choiceTold x) set far run (storedOf s m) time) (proposed x true set far s time) own run m
         go (Chosen p) h = record { leads = refl; possible = record { first = (omega arith, g); second = (h .0, h .1); storing = k } }
         go NoChoice h = record { leads = refl; possible = record { first = tt; second = tt; storing = k } }
 
   -- the choice from a list that was heard
-  pub plans-common : (behind : Bool) (found : Choice) (set : Settings) (far : FarOffer) (time : ℕ) {at : ℕ} → Lies run (choiceTold found) → Standing m at
+  pub plans-common : (afterCl : Bool) (found : Choice) (set : Settings) (far : FarOffer) (time : ℕ) {at : ℕ} → Lies run (choiceTold found) → Standing m at
       → goodField own ≡ true → goodWishes run ≡ true → choiceTold found ≡ choice (standardCodes own) (farCodes m at) run → far ≡ farOffer m
-      → r ≡ proposed found behind set far (Kept Named at) time → Plans (takes (thenMs behind) set own run m time) r own run m
-  plans-common true found set far time {at} l s g w e o p = plans-same (takes-cl-ms set own run m time s w e o) (plans-behind found set far (Kept Named at) time l s g p)
+      → r ≡ proposed found afterCl set far (Kept Named at) time → Plans (takes (thenMs afterCl) set own run m time) r own run m
+  plans-common true found set far time {at} l s g w e o p = plans-same (takes-cl-ms set own run m time s w e o) (plans-after-cl found set far (Kept Named at) time l s g p)
   plans-common false found set far time {at} l s g w e o p = plans-same (takes-ms set own run m time s w e o) (plans-proposed found set far (Kept Named at) time l s p)
 
 -- ---- what was done
@@ -72,7 +72,7 @@ module _ {own run m : List ℕ} {r : Plan} where
 -- nothing was sent in a field, and nothing stored
 pub did-quiet : (told : Told) (next : Phase) (out store : List ℕ) {r : Stepped}
     → stepTold r ≡ record { no = toldNo told; signal = NoSignal; first = 0; second = 0; stored = 0; next = next } → Did (quiet (toldNo told) next) out store r out store
-did-quiet told next out store e = record { reply = e; output = sym (put-nil out); store = sym (put-nil store) }
+did-quiet told next out store e = record { reply = e; output = simp put-nil; store = simp put-nil }
 
 -- what a plan says was put and stored, and told
 pub did-plan : (p : Plan) (own run m : List ℕ) {out₀ out₁ store₀ store₁ : List ℕ} {r : Stepped} {first second stored : ℕ}

@@ -11,7 +11,7 @@ use lib.ListN.{length, set, take, drop, length-take, length-drop}
 use lib.Seq.{take-all, getD-take, getD-drop}
 use Rattle.octets.specs.Bits.{num, AreOctets}
 use Rattle.octets.specs.Lay.{put, over}
-use Rattle.octets.proofs.Laying.{over-fits, length-put, put-nil}
+use Rattle.octets.proofs.Laying.{over-fits, length-put}
 use Rattle.tree.specs.Codes.{codeOf, fieldBase, fieldCodes}
 use Rattle.tree.specs.Order.{Ascending}
 use Rattle.tree.specs.Fields.{codesIn}
@@ -31,19 +31,15 @@ use Rattle.choice.specs.Wishes.{mostWishes, standardCodes, goodWishes}
 use Rattle.choice.specs.Choosing.{Far, choice, choiceTold}
 use Rattle.choice.specs.declared.Choice.{Choice}
 use Rattle.choice.specs.declared.Choice.the-variants.{Chosen, NoChoice}
-use Rattle.choice.specs.declared.Pick.{Pick}
 use Rattle.choice.proofs.Chosen.{chosen-first, first-member}
 use Rattle.choice.proofs.Tabled.{good-fields}
 use Rattle.octets.proofs.Laws.{both-true}
-use Rattle.table.specs.declared.Phase.{Phase}
 use Rattle.table.specs.declared.Settings.{Settings}
 use Rattle.station.specs.declared.Offer.{Offer}
 use Rattle.station.specs.declared.FarOffer.{FarOffer}
 use Rattle.station.specs.declared.sending.Outgoing.{Outgoing}
 use Rattle.station.specs.declared.sending.Outgoing.the-variants as outgoing
-use Rattle.station.specs.Sending.{codeIf, offerCodes, sentField, sentAck, sentNak, listOffer, sentList, modeOffer, sentMode}
-use Rattle.station.specs.Acting.{Outcome, sends}
-use Rattle.station.specs.Stepping.{stepTold}
+use Rattle.station.specs.Sending.{codeIf, offerCodes, sentField, sentAck, sentNak, modeOffer}
 use Rattle.station.specs.Inner.{Lies, Few, octetsOf, CanPut}
 
 -- ---- how it is laid into the output

@@ -2,7 +2,7 @@
 -- Assumes nothing.
 use Prim.Native.Nat.{ℕ, _+_, _≤_}
 use mathlib.Core.Bool.{Bool, true, false}
-use mathlib.Core.List.{List, [], _∷_, _++_}
+use mathlib.Core.List.{List, [], _∷_}
 use mathlib.Core.Path.{_≡_}
 use lib.ListN.{length, take, drop}
 use Rattle.tree.specs.declared.Field.the-variants.{Standard}
@@ -150,7 +150,7 @@ planning told signal message storing next =
 abbrev pub modeOf : Pick → Settings → FarOffer → Outgoing
 modeOf p settings far = outgoing.Mode (modeOffer settings far) (p .at) (p .length)
 
--- a choice sent as MS, behind a CL or alone
+-- a choice sent as MS, after a CL or alone
 abbrev pub proposed : Choice → Bool → Settings → FarOffer → Storing → ℕ → Plan
 proposed (Chosen p) true settings far storing time =
     record {
@@ -162,7 +162,7 @@ proposed (Chosen p) true settings far storing time =
       next = Proposed time (p .number) (settings .ack);
     }
 proposed (Chosen p) false settings far storing time = planning Done NoSignal (modeOf p settings far) storing (Proposed time (p .number) (settings .ack))
-proposed NoChoice behind settings far storing time = planning NothingToPropose NoSignal outgoing.Nothing storing (Initial time)
+proposed NoChoice afterCl settings far storing time = planning NothingToPropose NoSignal outgoing.Nothing storing (Initial time)
 
 -- what the table calls that
 abbrev pub thenMs : Bool → After

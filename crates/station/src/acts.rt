@@ -66,46 +66,51 @@ const SENT_NAK_2: u8 = REVISION_2 + NAK_2;
 
 const SENT_NAK_3: u8 = REVISION_2 + NAK_3;
 
+// One message at most.
+fn plan(told: Told, signal: Sends, message: Outgoing, storing: Storing, next: Phase) -> Plan
+    ensures { λ r. ⌜ r ≡ planning told signal message storing next ⌝ }
+{
+    Plan {
+        told,
+        signal,
+        first: message,
+        second: Outgoing::Nothing,
+        storing,
+        next,
+    }
+}
+
 // Something is told, and no more.
 fn tells(told: Told, next: Phase) -> Plan
     ensures { λ r. ⌜ r ≡ planning told Sends.NoSignal Outgoing.Nothing Storing.Leave next ⌝ }
 {
-    Plan {
+    plan(
         told,
-        signal: Sends::NoSignal,
-        first: Outgoing::Nothing,
-        second: Outgoing::Nothing,
-        storing: Storing::Leave,
+        Sends::NoSignal,
+        Outgoing::Nothing,
+        Storing::Leave,
         next,
-    }
+    )
 }
 
 // A signal is sent.
 fn signals(signal: Signal, next: Phase) -> Plan
     ensures { λ r. ⌜ r ≡ planning Told.Done (Sends.Signal signal) Outgoing.Nothing Storing.Leave next ⌝ }
 {
-    Plan {
-        told: Told::Done,
-        signal: Sends::Signal(signal),
-        first: Outgoing::Nothing,
-        second: Outgoing::Nothing,
-        storing: Storing::Leave,
+    plan(
+        Told::Done,
+        Sends::Signal(signal),
+        Outgoing::Nothing,
+        Storing::Leave,
         next,
-    }
+    )
 }
 
-// One message is sent, or none.
+// A message is sent, or none, and something stored, or nothing.
 fn sends(message: Outgoing, storing: Storing, next: Phase) -> Plan
     ensures { λ r. ⌜ r ≡ planning Told.Done Sends.NoSignal message storing next ⌝ }
 {
-    Plan {
-        told: Told::Done,
-        signal: Sends::NoSignal,
-        first: message,
-        second: Outgoing::Nothing,
-        storing,
-        next,
-    }
+    plan(Told::Done, Sends::NoSignal, message, storing, next)
 }
 
 // A CL or a CLR with the own table, which offers what the settings say.
@@ -140,17 +145,17 @@ fn mode_offer(settings: Settings, far: FarOffer) -> Offer
     }
 }
 
-// The MS of a choice, behind a CL or alone; nothing at all where there is none.
+// The MS of a choice, after a CL or alone; nothing at all where there is none.
 fn propose(
     found: Choice,
-    behind: bool,
+    after_cl: bool,
     settings: Settings,
     far: FarOffer,
     storing: Storing,
     time: u64,
 ) -> Plan
     requires { ⌜ Few (choiceTold found) ⌝ }
-    ensures { λ r. ⌜ r ≡ proposed found behind settings far storing time ⌝ }
+    ensures { λ r. ⌜ r ≡ proposed found «after_cl» settings far storing time ⌝ }
 {
     match found {
         Choice::Chosen(chosen) => {
@@ -158,7 +163,7 @@ fn propose(
             let offer = mode_offer(settings, far);
             let mode = Outgoing::Mode(offer, chosen.at, chosen.length);
             let next = Phase::Proposed(time, number, settings.ack);
-            if behind {
+            if after_cl {
                 return Plan {
                     told: Told::Done,
                     signal: Sends::NoSignal,
@@ -170,14 +175,13 @@ fn propose(
             }
             sends(mode, storing, next)
         }
-        Choice::NoChoice => Plan {
-            told: Told::NothingToPropose,
-            signal: Sends::NoSignal,
-            first: Outgoing::Nothing,
-            second: Outgoing::Nothing,
+        Choice::NoChoice => plan(
+            Told::NothingToPropose,
+            Sends::NoSignal,
+            Outgoing::Nothing,
             storing,
-            next: Phase::Initial(time),
-        },
+            Phase::Initial(time),
+        ),
     }
 }
 
@@ -200,9 +204,9 @@ fn far_offer(field: &[u8]) -> FarOffer
     }
 }
 
-// A list was heard: the first ready wish that both can do is proposed, behind a CL or alone.
+// A list was heard: the first ready wish that both can do is proposed, after a CL or alone.
 fn propose_common(
-    behind: bool,
+    after_cl: bool,
     call: Call,
     standard: usize,
     own: &[u8],
@@ -210,14 +214,14 @@ fn propose_common(
     field: &[u8],
 ) -> Plan
     requires { ⌜ Standing (now field) standard × (goodField (now own) ≡ true) × (goodWishes (now wishes) ≡ true) ⌝ }
-    ensures { λ r. ⌜ Plans (takes (thenMs behind) (call .settings) (now (own .entry)) (now (wishes .entry)) (now (field .entry)) (call .time)) r (now (own .entry)) (now (wishes .entry)) (now (field .entry)) ⌝ }
+    ensures { λ r. ⌜ Plans (takes (thenMs «after_cl») (call .settings) (now (own .entry)) (now (wishes .entry)) (now (field .entry)) (call .time)) r (now (own .entry)) (now (wishes .entry)) (now (field .entry)) ⌝ }
 {
     let settings = call.settings;
     let storing = Storing::Kept(Keep::Named, standard);
     let found = first_common(own, wishes, field, standard);
     propose(
         found,
-        behind,
+        after_cl,
         settings,
         far_offer(field),
         storing,

@@ -122,10 +122,10 @@ pub(crate) fn carry_out(
     let signal = plan.signal;
     let next = plan.next;
     let storing = plan.storing;
-    let message = plan.first;
-    let behind = plan.second;
-    let first = put_outgoing(message, own, wishes, out);
-    let second = put_outgoing(behind, own, wishes, &mut out[first..]);
+    let one = plan.first;
+    let two = plan.second;
+    let first = put_outgoing(one, own, wishes, out);
+    let second = put_outgoing(two, own, wishes, &mut out[first..]);
     let stored = put_stored(storing, field, store);
     answer(told, signal, first, second, stored, next)
 }

@@ -21,7 +21,7 @@ returns c =
     let f = o .before in
     let s = f .before .before .before .before .before in
     let a = s .args in
-    plans-common (a .behind) (f .first-common .result) (a .call .settings) (o .far-offer .result) (a .call .time) (lies f) (s .pre .0) (s .pre .1) (s .pre .2) (f .first-common .ensures) (o .far-offer .ensures) (c .propose .ensures)
+    plans-common (a .after-cl) (f .first-common .result) (a .call .settings) (o .far-offer .result) (a .call .time) (lies f) (s .pre .0) (s .pre .1) (s .pre .2) (f .first-common .ensures) (o .far-offer .ensures) (c .propose .ensures)
 
 pub propose-common-spec : {M : Type 1} → statement M
 propose-common-spec =

@@ -3,7 +3,7 @@
 use borrow.Author.Needs.{needs}
 use Prim.Native.Nat.{ℕ}
 use mathlib.Core.List.{List}
-use mathlib.Core.Path.{_≡_, sym, ap, _∙_}
+use mathlib.Core.Path.{_≡_, sym, _∙_}
 use Rattle.choice.specs.declared.Tables.{Tables}
 use Rattle.choice.specs.declared.Tables.the-variants.{Good, BadOwn, BadWishes, Outside}
 use Rattle.choice.proofs.Tabled.{tables-good}
