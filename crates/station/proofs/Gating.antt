@@ -108,8 +108,8 @@ module _ (p : Phase) (set : Settings) (own run : List ℕ) (event : Event) (m : 
 -- ---- the gate
 
 -- behind good tables and buffers with room, the time decides
-pub gated-by : (call : Call) (own run : List ℕ) (outSize storeSize : ℕ) (g : Gate) → Timed (call .phase) (call .time) g
-    → ((m : List ℕ) → stepOf (call .phase) (call .settings) own run (call .event) m (call .time) outSize storeSize ≡ timed (call .phase) (call .settings) own run (call .event) m (call .time))
-    → goodField own ≡ true → goodWishes run ≡ true → outputRoom ≤ outSize → storeRoom ≤ storeSize → Gated call own run outSize storeSize g
-gated-by call own run outSize storeSize Open t e table wishes out store = (λ m. e m ∙ t (call .settings) own run (call .event) m, table, wishes, out, store)
-gated-by call own run outSize storeSize (Shut told next) t e table wishes out store = λ m. e m ∙ t (call .settings) own run (call .event) m
+pub gated-by : (event : Event) (call : Call) (own run : List ℕ) (outSize storeSize : ℕ) (g : Gate) → Timed (call .phase) (call .time) g
+    → ((m : List ℕ) → stepOf (call .phase) (call .settings) own run event m (call .time) outSize storeSize ≡ timed (call .phase) (call .settings) own run event m (call .time))
+    → goodField own ≡ true → goodWishes run ≡ true → outputRoom ≤ outSize → storeRoom ≤ storeSize → Gated event call own run outSize storeSize g
+gated-by event call own run outSize storeSize Open t e table wishes out store = (λ m. e m ∙ t (call .settings) own run event m, table, wishes, out, store)
+gated-by event call own run outSize storeSize (Shut told next) t e table wishes out store = λ m. e m ∙ t (call .settings) own run event m

@@ -5,6 +5,7 @@ use mathlib.Core.Bool.{Bool, true, false, not}
 use mathlib.Core.List.{List, [], _∷_, _++_, append-nil}
 use mathlib.Core.Path.{_≡_, refl, sym, ap, _∙_}
 use native.Mathlib.Omega.{arith}
+use mir.Val.{boolByte}
 use borrow.Author.Tests.{lt-ltb, le-ltb}
 use borrow.Rule.Slice.PartMut.{putMid}
 use lib.ListN.{length, set, take, drop, length-take, length-drop}
@@ -41,6 +42,16 @@ use Rattle.station.specs.declared.sending.Outgoing.{Outgoing}
 use Rattle.station.specs.declared.sending.Outgoing.the-variants as outgoing
 use Rattle.station.specs.Sending.{codeIf, offerCodes, sentField, sentAck, sentNak, modeOffer}
 use Rattle.station.specs.Inner.{Lies, Few, octetsOf, CanPut}
+
+-- ---- a truth value as an octet
+
+pub bit-octet : (b : Bool) → boolByte b ≡ num b
+bit-octet true = refl
+bit-octet false = refl
+
+pub bit-small : (b : Bool) → boolByte b ≤ 1
+bit-small true = omega arith
+bit-small false = omega arith
 
 -- ---- how it is laid into the output
 

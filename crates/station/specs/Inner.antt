@@ -63,14 +63,14 @@ Timed p time (Shut told next) = (settings : Settings) (own wishes : List ℕ) (e
     → timed p settings own wishes event field time ≡ quiet (toldNo told) next
 
 -- a whole step, of which nothing is left to do or the event goes on, in good tables and buffers with room
-abbrev pub Gated : Call → List ℕ → List ℕ → ℕ → ℕ → Gate → Type 0
-Gated call own wishes outSize storeSize Open =
+abbrev pub Gated : Event → Call → List ℕ → List ℕ → ℕ → ℕ → Gate → Type 0
+Gated event call own wishes outSize storeSize Open =
     ((field : List ℕ)
-    → stepOf (call .phase) (call .settings) own wishes (call .event) field (call .time) outSize storeSize
-    ≡ sorted (sortOf (call .event) field) (call .phase) (call .settings) own wishes field (call .time))
+    → stepOf (call .phase) (call .settings) own wishes event field (call .time) outSize storeSize
+    ≡ sorted (sortOf event field) (call .phase) (call .settings) own wishes field (call .time))
     × (goodField own ≡ true) × (goodWishes wishes ≡ true) × (outputRoom ≤ outSize) × (storeRoom ≤ storeSize)
-Gated call own wishes outSize storeSize (Shut told next) = (field : List ℕ)
-    → stepOf (call .phase) (call .settings) own wishes (call .event) field (call .time) outSize storeSize ≡ quiet (toldNo told) next
+Gated event call own wishes outSize storeSize (Shut told next) = (field : List ℕ)
+    → stepOf (call .phase) (call .settings) own wishes event field (call .time) outSize storeSize ≡ quiet (toldNo told) next
 
 -- ---- a choice
 

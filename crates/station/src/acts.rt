@@ -18,6 +18,7 @@ ghost use Rattle.station.specs.Acting.{waiting, farOffer, takes, judges,
 ghost use Rattle.station.specs.Stepping.{sorted};
 ghost use Rattle.station.specs.Inner.{Standing, Few, planning, proposed, thenMs, Plans, PlansAny, PlansFirst};
 use super::Call;
+use super::Event;
 use super::FarOffer;
 use super::Offer;
 use super::Sends;
@@ -66,51 +67,46 @@ const SENT_NAK_2: u8 = REVISION_2 + NAK_2;
 
 const SENT_NAK_3: u8 = REVISION_2 + NAK_3;
 
-// One message at most.
-fn plan(told: Told, signal: Sends, message: Outgoing, storing: Storing, next: Phase) -> Plan
-    ensures { λ r. ⌜ r ≡ planning told signal message storing next ⌝ }
-{
-    Plan {
-        told,
-        signal,
-        first: message,
-        second: Outgoing::Nothing,
-        storing,
-        next,
-    }
-}
-
 // Something is told, and no more.
 fn tells(told: Told, next: Phase) -> Plan
     ensures { λ r. ⌜ r ≡ planning told Sends.NoSignal Outgoing.Nothing Storing.Leave next ⌝ }
 {
-    plan(
+    Plan {
         told,
-        Sends::NoSignal,
-        Outgoing::Nothing,
-        Storing::Leave,
+        signal: Sends::NoSignal,
+        first: Outgoing::Nothing,
+        second: Outgoing::Nothing,
+        storing: Storing::Leave,
         next,
-    )
+    }
 }
 
 // A signal is sent.
 fn signals(signal: Signal, next: Phase) -> Plan
     ensures { λ r. ⌜ r ≡ planning Told.Done (Sends.Signal signal) Outgoing.Nothing Storing.Leave next ⌝ }
 {
-    plan(
-        Told::Done,
-        Sends::Signal(signal),
-        Outgoing::Nothing,
-        Storing::Leave,
+    Plan {
+        told: Told::Done,
+        signal: Sends::Signal(signal),
+        first: Outgoing::Nothing,
+        second: Outgoing::Nothing,
+        storing: Storing::Leave,
         next,
-    )
+    }
 }
 
 // A message is sent, or none, and something stored, or nothing.
 fn sends(message: Outgoing, storing: Storing, next: Phase) -> Plan
     ensures { λ r. ⌜ r ≡ planning Told.Done Sends.NoSignal message storing next ⌝ }
 {
-    plan(Told::Done, Sends::NoSignal, message, storing, next)
+    Plan {
+        told: Told::Done,
+        signal: Sends::NoSignal,
+        first: message,
+        second: Outgoing::Nothing,
+        storing,
+        next,
+    }
 }
 
 // A CL or a CLR with the own table, which offers what the settings say.
@@ -175,13 +171,14 @@ fn propose(
             }
             sends(mode, storing, next)
         }
-        Choice::NoChoice => plan(
-            Told::NothingToPropose,
-            Sends::NoSignal,
-            Outgoing::Nothing,
+        Choice::NoChoice => Plan {
+            told: Told::NothingToPropose,
+            signal: Sends::NoSignal,
+            first: Outgoing::Nothing,
+            second: Outgoing::Nothing,
             storing,
-            Phase::Initial(time),
-        ),
+            next: Phase::Initial(time),
+        },
     }
 }
 
@@ -306,12 +303,12 @@ fn propose_first(settings: Settings, wishes: &[u8], time: u64) -> Plan
     )
 }
 
-// The phase of the mode that was proposed and is agreed.
-fn agreed(phase: Phase, time: u64) -> Phase
-    ensures { λ r. ⌜ r ≡ Phase.Mode time (wishOf phase) (ackOf phase) ⌝ }
+// The mode that was proposed is agreed.
+fn agree(phase: Phase, time: u64) -> Plan
+    ensures { λ r. ⌜ r ≡ planning Told.Done Sends.NoSignal Outgoing.Nothing Storing.Leave (Phase.Mode time (wishOf phase) (ackOf phase)) ⌝ }
 {
     let carried = carried_by(phase);
-    Phase::Mode(time, carried.wish, carried.ack)
+    tells(Told::Done, Phase::Mode(time, carried.wish, carried.ack))
 }
 
 // The phase that waits for the answer to a signal.
@@ -344,20 +341,19 @@ fn perform(act: Act, call: Call, standard: usize, own: &[u8], wishes: &[u8], fie
         Act::PairClr => send_list(CLR, settings, Phase::Pair(time)),
         Act::Take(after) => take_list(after, call, standard, own, wishes, field),
         Act::Judge => judge(wishes, field, standard, time),
-        Act::Agree => tells(Told::Done, agreed(phase, time)),
+        Act::Agree => agree(phase, time),
         Act::GiveUp => tells(Told::Done, Phase::Initial(time)),
         Act::SendNak1 => refuse(SENT_NAK_1, time),
     }
 }
 
 // What is to be done about an event that the gate let through.
-pub(crate) fn decide(call: Call, own: &[u8], wishes: &[u8], field: &[u8]) -> Plan
+pub(crate) fn decide(event: Event, call: Call, own: &[u8], wishes: &[u8], field: &[u8]) -> Plan
     requires { ⌜ (goodField (now own) ≡ true) × (goodWishes (now wishes) ≡ true) ⌝ }
-    ensures { λ r. ⌜ Plans (sorted (sortOf (call .event) (now (field .entry))) (call .phase) (call .settings) (now (own .entry)) (now (wishes .entry)) (now (field .entry)) (call .time)) r (now (own .entry)) (now (wishes .entry)) (now (field .entry)) ⌝ }
+    ensures { λ r. ⌜ Plans (sorted (sortOf event (now (field .entry))) (call .phase) (call .settings) (now (own .entry)) (now (wishes .entry)) (now (field .entry)) (call .time)) r (now (own .entry)) (now (wishes .entry)) (now (field .entry)) ⌝ }
 {
     let phase = call.phase;
     let settings = call.settings;
-    let event = call.event;
     match hear(event, field) {
         Hearing::Thing(heard, standard) => {
             let carried = carried_by(phase);

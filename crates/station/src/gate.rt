@@ -73,17 +73,17 @@ fn timed_gate(phase: Phase, time: u64) -> Gate
 
 // Reset, refusals 1 to 4, and then the time.
 pub(crate) fn checked_gate(
+    event: Event,
     call: Call,
     own: &[u8],
     wishes: &[u8],
     out_size: usize,
     store_size: usize,
 ) -> Gate
-    ensures { λ r. ⌜ Gated call (now (own .entry)) (now (wishes .entry)) «out_size» «store_size» r ⌝ }
+    ensures { λ r. ⌜ Gated event call (now (own .entry)) (now (wishes .entry)) «out_size» «store_size» r ⌝ }
 {
     let phase = call.phase;
     let time = call.time;
-    let event = call.event;
     if is_reset(event) {
         return Gate::Shut(Told::Done, Phase::Initial(time));
     }

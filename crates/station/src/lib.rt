@@ -74,11 +74,10 @@ pub struct FarOffer {
     pub short_v8: bool,
 }
 
-// What a step is given beside what is lent.
+// What a step is given beside the event and what is lent.
 pub(crate) struct Call {
     pub(crate) phase: Phase,
     pub(crate) settings: Settings,
-    pub(crate) event: Event,
     pub(crate) time: u64,
 }
 
@@ -112,13 +111,6 @@ pub(crate) fn answer(
     }
 }
 
-// An answer that only tells something, and where the station then is.
-pub(crate) fn silent(told: Told, phase: Phase) -> Stepped
-    ensures { λ r. ⌜ stepTold r ≡ record { no = toldNo told; signal = Sends.NoSignal; first = 0; second = 0; stored = 0; next = phase } ⌝ }
-{
-    answer(told, Sends::NoSignal, 0, 0, 0, phase)
-}
-
 // One step: the state, the settings, the own table, the wishes, the event with the information field heard, the time, the output and
 // the store. Reset is not checked at all.
 pub fn step(
@@ -138,14 +130,13 @@ pub fn step(
     let call = Call {
         phase,
         settings,
-        event,
         time,
     };
-    match checked_gate(call, own, wishes, out.len(), store.len()) {
+    match checked_gate(event, call, own, wishes, out.len(), store.len()) {
         Gate::Open => {
-            let plan = decide(call, own, wishes, field);
+            let plan = decide(event, call, own, wishes, field);
             carry_out(plan, own, wishes, field, out, store)
         }
-        Gate::Shut(told, next) => silent(told, next),
+        Gate::Shut(told, next) => answer(told, Sends::NoSignal, 0, 0, 0, next),
     }
 }

@@ -3,7 +3,6 @@ ghost use mathlib.Core.Path.{_≡_};
 ghost use mathlib.Core.Bool.{true};
 ghost use Prim.Native.Nat.{_≤_};
 ghost use lib.ListN.{length};
-ghost use Rattle.octets.specs.Bits.{num};
 ghost use Rattle.octets.specs.Lay.{put};
 ghost use Rattle.good.specs.Good.{goodField};
 ghost use Rattle.choice.specs.Wishes.{standardCodes};
@@ -50,20 +49,13 @@ pub(crate) struct Plan {
     pub(crate) next: Phase,
 }
 
-// A bit as a number.
-fn bit(b: bool) -> u8
-    ensures { λ r. ⌜ (r ≡ num b) × (r ≤ 1) ⌝ }
-{
-    if b { 1 } else { 0 }
-}
-
 // Puts an MS, a CL or a CLR. Its standard field is put as it is, since it is minimal.
 fn put_message(kind: u8, offer: Offer, standard: &[u8], out: &mut [u8]) -> usize
     requires { ⌜ (kind ≤ 3) × (goodField (now standard) ≡ true) × (64 ≤ length (now out)) ⌝ }
     ensures { λ r. ⌜ (r ≡ length (sentField kind offer (standardCodes (now (standard .entry))))) × (now (out .exit) ≡ put (sentField kind offer (standardCodes (now (standard .entry)))) (now (out .entry))) ⌝ }
 {
     out[0] = REVISION_2 + kind;
-    out[1] = 128 + bit(offer.v8) + 2 * bit(offer.short_v8) + 8 * bit(offer.ack);
+    out[1] = 128 + offer.v8 as u8 + 2 * offer.short_v8 as u8 + 8 * offer.ack as u8;
     out[2] = 128;
     let size = standard.len();
     copy_front(standard, size, &mut out[3..]);

@@ -10,7 +10,7 @@ use Rattle.station.proofs.step.Tie as tie
 
 -- what is known behind the gate
 open-gate : (c : tie.After-enum-told) → let a = c .before .before .before .before .before .before .before .before .args in
-    Gated (record { phase = a .state .phase; settings = a .settings; event = a .event; time = a .time }) (a .own .now) (a .wishes .now) (length (a .out .now)) (length (a .store .now)) Open
+    Gated (a .event) (record { phase = a .state .phase; settings = a .settings; time = a .time }) (a .own .now) (a .wishes .now) (length (a .out .now)) (length (a .store .now)) Open
 open-gate c = rw (c .enum-told .given .1) at (c .before .before .checked-gate .ensures)
 
 decide-requires : tie.Need-decide-requires
@@ -30,7 +30,7 @@ returns-2 c =
     let t = c .before .before in
     let g = rw (t .told .given .1) at (t .before .before .checked-gate .ensures) in
     let x = t .told .given .0 in
-    rw (g (t .before .before .before .before .before .before .before .before .args .field .now)) (did-quiet (x .0) (x .1 .0) _ _ (c .silent .ensures))
+    rw (g (t .before .before .before .before .before .before .before .before .args .field .now)) (did-quiet (x .0) (x .1 .0) _ _ (c .answer .ensures))
 
 pub step-spec : {M : Type 1} → statement M
 step-spec =

@@ -50,10 +50,10 @@ returns-9 : tie.Need-returns-9
 returns-9 c = rw (c .before .enum-told7 .given .1) (c .judge .ensures _ _)
 
 returns-10 : tie.Need-returns-10
-returns-10 c = rw (c .before .before .enum-told8 .given .1, ← c .before .agreed .ensures) (plans-one (c .tells2 .ensures) tt tt refl)
+returns-10 c = rw (c .before .enum-told8 .given .1) (plans-one (c .agree .ensures) tt tt refl)
 
 returns-11 : tie.Need-returns-11
-returns-11 c = rw (c .before .enum-told9 .given .1) (plans-one (c .tells3 .ensures) tt tt refl)
+returns-11 c = rw (c .before .enum-told9 .given .1) (plans-one (c .tells2 .ensures) tt tt refl)
 
 returns-12 : tie.Need-returns-12
 unfolding messageOctets
@@ -83,7 +83,6 @@ perform-spec =
     (λ c. search needs)
     judge-requires
     (λ c. search needs)
-    (λ c κs. search needs)
     (λ c κs. search needs)
     (λ c. search needs)
     (λ c κs. search needs)

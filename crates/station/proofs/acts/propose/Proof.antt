@@ -21,7 +21,7 @@ returns-2 c =
     rw (m .before .before .before .found .given .1, c .before .if1 .left, ← m .mode-offer .ensures) (c .sends .ensures)
 
 returns-3 : tie.Need-returns-3
-returns-3 c = rw (c .before .enum-told .given .1) (c .plan .ensures)
+returns-3 c = rw (c .enum-told .given .1)
 
 pub propose-spec : {M : Type 1} → statement M
 propose-spec =
@@ -34,6 +34,5 @@ propose-spec =
     returns
     (λ c κs. search needs)
     (λ c. search needs)
-    (λ c κs. search needs)
     returns-2
     returns-3)

@@ -15,8 +15,8 @@ use Rattle.station.proofs.gate.checked_gate.Tie as tie
 -- behind the reset and the sizes, what the tables are found to be decides
 found : (c : tie.After-check-tables) (t : Tables) → c .check-tables .result ≡ t
     → let a = c .before .before .before .before .before .before .before .args in
-    (m : List ℕ) → stepOf (a .call .phase) (a .call .settings) (a .own .now) (a .wishes .now) (a .call .event) m (a .call .time) (a .out-size) (a .store-size)
-    ≡ tabled t (a .call .phase) (timed (a .call .phase) (a .call .settings) (a .own .now) (a .wishes .now) (a .call .event) m (a .call .time))
+    (m : List ℕ) → stepOf (a .call .phase) (a .call .settings) (a .own .now) (a .wishes .now) (a .event) m (a .call .time) (a .out-size) (a .store-size)
+    ≡ tabled t (a .call .phase) (timed (a .call .phase) (a .call .settings) (a .own .now) (a .wishes .now) (a .event) m (a .call .time))
 found c t e m =
     let s = c .before in
     let o = s .before in
@@ -43,7 +43,7 @@ returns-4 c =
     let e = c .before in
     let t = e .before .before in
     let g = tables-good _ _ (sym (rw (e .enum-told .given .1) at (t .check-tables .ensures))) in
-    gated-by _ _ _ _ _ (c .timed-gate .result) (c .timed-gate .ensures) (found t Good (e .enum-told .given .1)) (g .table) (g .wishes) (t .before .before .if2 .left) (t .before .if3 .left)
+    gated-by _ _ _ _ _ _ (c .timed-gate .result) (c .timed-gate .ensures) (found t Good (e .enum-told .given .1)) (g .table) (g .wishes) (t .before .before .if2 .left) (t .before .if3 .left)
 
 returns-5 : tie.Need-returns-5
 returns-5 c = found (c .before .before) BadOwn (c .enum-told2 .given .1)

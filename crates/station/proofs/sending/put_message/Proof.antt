@@ -5,9 +5,24 @@ use native.Mathlib.Omega.{arith}
 use borrow.Author.Needs.{needs}
 use lib.ListN.{length-set}
 use Rattle.octets.specs.Bits.{AreOctets}
-use Rattle.station.proofs.Sendings.{sent-length, sent-laid}
+use Rattle.station.proofs.Sendings.{bit-octet, bit-small, sent-length, sent-laid}
 use Rattle.station.proofs.sending.put_message.Statement.{statement}
 use Rattle.station.proofs.sending.put_message.Tie as tie
+
+add-out-2 : tie.Need-add-out-2
+add-out-2 c = omega (arith, bit-small (c .before .before .before .args .offer .v8))
+
+mul-out : tie.Need-mul-out
+mul-out c = omega (arith, bit-small (c .before .before .before .before .args .offer .«short_v8»))
+
+add-out-3 : tie.Need-add-out-3
+add-out-3 c = let o = c .before .before .before .before .args .offer in omega (arith, bit-small (o .v8), bit-small (o .«short_v8»))
+
+mul-out-2 : tie.Need-mul-out-2
+mul-out-2 c = omega (arith, bit-small (c .before .before .before .before .before .args .offer .ack))
+
+add-out-4 : tie.Need-add-out-4
+add-out-4 c = let o = c .before .before .before .before .before .args .offer in omega (arith, bit-small (o .v8), bit-small (o .«short_v8»), bit-small (o .ack))
 
 slice-write-out-2 : tie.Need-slice-write-out-2
 slice-write-out-2 c = simp length-set (omega arith)
@@ -31,7 +46,7 @@ returns c =
     let a = s .args in
     let o : AreOctets (a .standard .now) = λ i l. b .before .before .before .before .shared-slice-known .given i .fits in (
       sym (sent-length (a .kind) (a .offer) (a .standard .now) (s .pre .0) o (s .pre .1)),
-      sent-laid (a .kind) (a .offer) (a .standard .now) (s .pre .0) o (s .pre .1) _ _ _ _ (a .out .now) _ _ (s .pre .2) (b .before .before .bit .ensures .0) (b .before .bit2 .ensures .0) (b .bit3 .ensures .0) refl refl (c .before .before .copy-front .ensures),
+      sent-laid (a .kind) (a .offer) (a .standard .now) (s .pre .0) o (s .pre .1) _ _ _ _ (a .out .now) _ _ (s .pre .2) (bit-octet (a .offer .v8)) (bit-octet (a .offer .«short_v8»)) (bit-octet (a .offer .ack)) refl refl (c .before .before .copy-front .ensures),
     )
 
 pub put-message-spec : {M : Type 1} → statement M
@@ -40,14 +55,14 @@ put-message-spec =
     (tie.spec
     (λ c. search needs)
     (λ c. search needs)
-    (λ c κs. search needs)
     (λ c. search needs)
-    (λ c κs. search needs)
+    add-out-2
     (λ c. search needs)
+    mul-out
+    add-out-3
     (λ c. search needs)
-    (λ c κs. search needs)
-    (λ c. search needs)
-    (λ c. search needs)
+    mul-out-2
+    add-out-4
     slice-write-out-2
     slice-write-out-3
     sub-copy-front
