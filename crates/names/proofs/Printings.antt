@@ -3,21 +3,25 @@
 use Prim.Native.Nat.{ℕ, zero, suc, _+_, _-_, _*_, _/_, _%_, _^_, _<_}
 use mathlib.Core.Bool.{Bool, true, false}
 use mathlib.Core.List.{List, [], _∷_}
+use mathlib.Core.Logic.{⊎-elim}
 use mathlib.Core.Path.{_≡_, refl, sym, ap, _∙_}
 use native.Mathlib.Nat.{zero-div, div-one}
 use native.Mathlib.Omega.{arith}
-use borrow.Author.Tests.{lt-ltb}
+use borrow.Author.Tests.{eqb-true, lt-ltb}
+use lib.Bits.{bitAnd, and-zero-l}
+use lib.Dec.{eqb}
 use lib.Pow.{shr-shr}
 use Rattle.tree.specs.Codes.{ofF, ofS}
 use Rattle.octets.specs.Bits.{num, odd}
+use Rattle.octets.specs.Places.{pick}
 use Rattle.octets.proofs.Digits.{num-lt}
-use Rattle.names.specs.Tables.{Printed, named, nonStandard, reserved, nparBlocks, sparBlocks}
+use Rattle.names.specs.Tables.{Printed, reserved, nparBlocks, sparBlocks}
 use Rattle.names.specs.Named.{printedUnder, printedAt, nparPrinted, sparPrinted, printedOf, isNamed, isStandard, keepsPrinted, keeps}
 use Rattle.names.specs.Masks.{maskOf, placesOf, nparPlaces, sparPlaces}
-use Rattle.names.specs.Inner.{isNonStandard, keptPlace}
+use Rattle.names.specs.Inner.{keptPlace}
 use Rattle.names.specs.declared.Keep.{Keep}
 use Rattle.names.specs.declared.Keep.the-variants.{All, Named, Standard}
-use Rattle.names.proofs.Blocks.{every, mask-zero}
+use Rattle.names.proofs.Blocks.{every, under-every}
 
 -- ---- the bits of a block
 
@@ -45,21 +49,19 @@ kept-place All printed (suc i) h = refl
 kept-place Named printed (suc i) h = let e : suc i - 1 ≡ i = omega arith in rw e (mask-bit isNamed refl printed i)
 kept-place Standard printed (suc i) h = let e : suc i - 1 ≡ i = omega arith in rw e (mask-bit isStandard refl printed i)
 
--- the standard positions are the named ones but the non-standard ones
-pub mask-named : (printed : List Printed) → maskOf isNamed printed ≡ maskOf isStandard printed + maskOf isNonStandard printed
+-- the standard positions of a block are the named ones under a mask, where that is so of every printed block whose code passes a test
+pub mask-standard : (t : ℕ → Bool) (m c : ℕ) → every (λ x printed. pick (t x) (eqb (bitAnd (maskOf isNamed printed) m) (maskOf isStandard printed)) true) nparBlocks ≡ true → t c ≡ true
+    → bitAnd (maskOf isNamed (printedUnder c nparBlocks)) m ≡ maskOf isStandard (printedUnder c nparBlocks)
 unfolding maskOf
-mask-named [] = refl
-mask-named (named ∷ printed) = omega (arith, mask-named printed)
-mask-named (nonStandard ∷ printed) = omega (arith, mask-named printed)
-mask-named (reserved ∷ printed) = omega (arith, mask-named printed)
-
-pub mask-standard : (printed : List Printed) → maskOf isStandard printed ≡ maskOf isNamed printed - maskOf isNonStandard printed
-mask-standard printed = omega (arith, mask-named printed)
+mask-standard t m c h e =
+    ⊎-elim (λ n. rw n (and-zero-l m)) (λ p. eqb-true _ _ (rw e at p))
+    (under-every (λ x printed. pick (t x) (eqb (bitAnd (maskOf isNamed printed) m) (maskOf isStandard printed)) true) nparBlocks c h)
 
 -- no SPar position is non-standard
 pub spar-standard : (c : ℕ) → maskOf isStandard (printedUnder c sparBlocks) ≡ maskOf isNamed (printedUnder c sparBlocks)
 unfolding every maskOf
-spar-standard c = omega (arith, mask-named (printedUnder c sparBlocks), mask-zero isNonStandard (λ x. false) sparBlocks c refl refl)
+spar-standard c =
+    ⊎-elim (λ n. rw n) (λ p. eqb-true _ _ p) (under-every (λ x printed. eqb (maskOf isStandard printed) (maskOf isNamed printed)) sparBlocks c refl)
 
 -- ---- what is printed of codes
 

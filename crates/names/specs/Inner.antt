@@ -1,16 +1,10 @@
--- Inner: the non-standard positions, and one position of those that are kept.
+-- Inner: one position of those that are kept.
 -- Assumes nothing.
 use Prim.Native.Nat.{ℕ, _-_, _/_, _^_}
-use mathlib.Core.Bool.{Bool, true, false}
+use mathlib.Core.Bool.{Bool, true}
 use Rattle.octets.specs.Bits.{odd}
 use Rattle.octets.specs.Places.{pick}
-use Rattle.names.specs.Tables.{Printed, named, nonStandard, reserved}
 use Rattle.names.specs.declared.Places.{Places}
-
-abbrev pub isNonStandard : Printed → Bool
-isNonStandard named = false
-isNonStandard nonStandard = true
-isNonStandard reserved = false
 
 -- whether a position, counted from 1, is kept
 abbrev pub keptPlace : Places → ℕ → Bool

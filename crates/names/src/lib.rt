@@ -2,11 +2,11 @@
 // a field is rewritten. No table is held: a block's names are one number with a bit for each position.
 ghost use mathlib.Core.Path.{_≡_};
 ghost use Prim.Native.Nat.{_+_, _*_};
+ghost use lib.Bits.{bitAnd};
 ghost use Rattle.tree.specs.Codes.{codeOf};
 ghost use Rattle.names.specs.Tables.{nparBlocks, sparBlocks};
-ghost use Rattle.names.specs.Named.{printedUnder, isNamed};
+ghost use Rattle.names.specs.Named.{printedUnder, isNamed, isStandard};
 ghost use Rattle.names.specs.Masks.{maskOf};
-ghost use Rattle.names.specs.Inner.{isNonStandard};
 ghost use Rattle.names.specs.Contracts.{TellsNparPlaces, TellsSparPlaces};
 use tree::IDENTIFICATION;
 use tree::OF_S;
@@ -17,6 +17,15 @@ use tree::STANDARD;
 const IN_I: u32 = IDENTIFICATION / OF_S;
 
 const IN_S: u32 = STANDARD / OF_S;
+
+// The thirty positions that tables print at most, and those but the bits that are non-standard.
+const PRINTED: u32 = 0x3FFFFFFF;
+
+const BUT_7: u32 = PRINTED - 0x40;
+
+const BUT_6: u32 = PRINTED - 0x20;
+
+const BUT_6_AND_12: u32 = BUT_6 - 0x800;
 
 // What is kept of a field: all, the named parameters, or those of them that are no non-standard bits.
 pub enum Keep {
@@ -80,34 +89,26 @@ fn npar_names(under: u32) -> u32
     standard_names(group - IN_S)
 }
 
-// The non-standard ones among them: bit 7 at level 1, bit 6 below, of T.30 facsimile also bit 12.
-fn non_standards(under: u32) -> u32
-    ensures { λ r. ⌜ r ≡ maskOf isNonStandard (printedUnder under nparBlocks) ⌝ }
+// Where a block that stands under a code has no non-standard one: everywhere but at bit 7 at level 1 and at bit 6 below, of T.30 facsimile
+// also at bit 12. NPar(3) and the call association number have none.
+fn standard_mask(under: u32) -> u32
+    ensures { λ r. ⌜ bitAnd (maskOf isNamed (printedUnder under nparBlocks)) r ≡ maskOf isStandard (printedUnder under nparBlocks) ⌝ }
 {
-    let group = under / OF_S;
     if under % OF_S != 0 {
-        return 0;
+        return PRINTED;
     }
-    if group == IN_I {
-        return 0x40;
-    }
-    if group == IN_I + 1 {
-        return 0x20;
-    }
+    let group = under / OF_S;
     if group < IN_S {
-        return 0;
+        if group == IN_I {
+            return BUT_7;
+        }
+        return BUT_6;
     }
     match group - IN_S {
-        0 => 0x40,
-        1 => 0x20,
-        2 => 0x20,
-        3 => 0x20,
-        4 => 0x20,
-        5 => 0x820,
-        6 => 0x20,
-        7 => 0x20,
-        8 => 0x20,
-        9.. => 0,
+        0 => BUT_7,
+        5 => BUT_6_AND_12,
+        9 => PRINTED,
+        _ => BUT_6,
     }
 }
 
@@ -142,7 +143,7 @@ pub fn npar_places(keep: Keep, under: u32) -> Places
         },
         Keep::Standard => Places {
             all: false,
-            bits: npar_names(under) - non_standards(under),
+            bits: npar_names(under) & standard_mask(under),
         },
     }
 }

@@ -5,7 +5,7 @@ use Prim.Native.Nat.{ℕ, zero, suc, _+_, _*_, _-_, _/_, _%_, _^_, _≤_, _<_}
 use mathlib.Core.Bool.{Bool, true, false}
 use mathlib.Core.List.{List, [], _∷_, _++_}
 use mathlib.Core.Path.{_≡_, refl, sym, ap, _∙_}
-use native.Mathlib.Nat.{add-mul-mod-self-right, mod-eq-of-lt}
+use native.Mathlib.Nat.{add-mul-mod-self-right, mod-eq-of-lt, zero-div}
 use native.Mathlib.Omega.{arith}
 use borrow.Author.Tests.{eqb-true, eq-eqb, ne-eqb, lt-ltb, le-ltb}
 use lib.Bits.{bitAnd}
@@ -151,6 +151,11 @@ module _ (w : ℕ) (places : Places) where
       go true h = omega arith
       go false h = omega arith
 
+  octets-some : (m p : ℕ) (l : List ℕ) → 0 < length l → 0 < length (keptOctets w places m p l)
+  unfolding keptOctets
+  octets-some m p [] h = absurd (omega arith)
+  octets-some m p (o ∷ l) h = omega arith
+
   -- their numbers are the kept ones
   octets-numbers : (p : ℕ) (l : List ℕ) → blockNumbers w (2 ^ w) p (keptOctets w places (2 ^ w) p l) ≡ only (keptPlace places) (blockNumbers w (2 ^ w) p l)
   unfolding keptOctets blockNumbers
@@ -281,6 +286,12 @@ written-kept w m places l mark wide =
 empty-kept : (w m : ℕ) (places : Places) (l : List ℕ) → m ≡ 2 ^ w → isEmpty (only (keptPlace places) (blockNumbers w m 0 l)) ≡ allZero (keptOctets w places m 0 l)
 empty-kept w m places l mark = rw (mark, ← (octets-numbers w places 0 l)) (empty-numbers w 0 _ (octets-small w places 0 l))
 
+-- a test that no number passes
+only-none : (f : ℕ → Bool) (l : List ℕ) → ((x : ℕ) → f x ≡ false) → only f l ≡ []
+unfolding only
+only-none f [] h = refl
+only-none f (x ∷ l) h = rw (h x) (only-none f l h)
+
 -- of one octet that is left the first says it
 first-kept : (w m : ℕ) (places : Places) (l : List ℕ) → length (trim m (keptOctets w places m 0 l)) ≤ 1 → eqb (keptOctet w places 0 (getD l 0 0)) 0 ≡ allZero (keptOctets w places m 0 l)
 unfolding keptOctets allZero trim
@@ -321,11 +332,26 @@ module _ {w m : ℕ} {s : List ℕ} (f : Framed w m s) (places : Places) (e : �
       let first : getD (drop e s) 0 0 ≡ getD s e 0 = getD-drop e s 0 0 ∙ ap (λ (n : ℕ). getD s n 0) (omega arith) in
       rw (k, ← first) (first-kept w m places (drop e s) (omega (arith, ap length kept-written)) ∙ sym (empty-kept w m places (drop e s) (f .mark)))
 
+  -- and where no position is kept, nothing is
+  pub keeps-nothing : pick (places .all) false (eqb (places .bits) 0) ≡ true → true ≡ isEmpty (sieved w m places s e)
+  keeps-nothing h = sym (ap isEmpty (only-none (keptPlace places) (blockNumbers w m 0 (drop e s)) (go (places .all) refl h)))
+    where
+      go : (t : Bool) → places .all ≡ t → pick t false (eqb (places .bits) 0) ≡ true → (q : ℕ) → keptPlace places q ≡ false
+      go true a z q = absurd (omega (arith, ap num z))
+      go false a z q = rw (a, eqb-true (places .bits) 0 z, zero-div (2 ^ (q - 1)))
+
   -- few octets are left
   pub kept-few : (0 < length (blockKept w m places s e)) × (length (blockKept w m places s e) ≤ 65)
   kept-few =
       let n = ap length kept-written in
       (omega (arith, trim-some m (keptOctets w places m 0 (drop e s))), omega (arith, octets-reach w places m (drop e s), length-drop e s, f .short))
+
+  -- all of them at places of octets, where the block begins at one
+  pub kept-within : e < length s → e + length (blockKept w m places s e) ≤ length s
+  kept-within h =
+      let K = keptOctets w places m 0 (drop e s) in
+      let some : 0 < length (drop e s) = omega (arith, length-drop e s) in
+      omega (arith, ap length kept-written, trim-reach m K, octets-some w places m 0 (drop e s) some, octets-few w places m 0 (drop e s), length-drop e s)
 
   -- each is the kept octet at its place, and the last has the delimiter
   octet-there : (i : ℕ) → i < length (blockKept w m places s e) → getD (keptOctets w places m 0 (drop e s)) i 0 ≡ keptOctet w places (w * i) (getD s (e + i) 0)

@@ -9,9 +9,10 @@ use borrow.Author.Tests.{lt-ltb, le-ltb}
 use lib.ListN.{length}
 use Rattle.octets.specs.Bits.{AreOctets}
 use Rattle.octets.proofs.Laying.{put-nil}
-use Rattle.tree.specs.Form.{isFine}
+use Rattle.tree.specs.Form.{isFine, fieldForm}
 use Rattle.tree.specs.Fields.{baseOf, formIn}
 use Rattle.tree.specs.declared.Field.{Field}
+use Rattle.tree.specs.declared.Form.the-variants.{Fine}
 use Rattle.tree.proofs.Forms.{field-fits, fine-in}
 use Rattle.message.proofs.Room.{codes-in}
 use Rattle.names.specs.declared.Keep.{Keep}
@@ -44,11 +45,11 @@ module _ (k : Keep) (f : Field) (l : List ℕ) (at : ℕ) (out : List ℕ) where
 
     module _ (octets : AreOctets l) (fine : isFine (formIn l at) ≡ true) where
       -- it is, and an output with room for a message has room for what is kept of it
-      pub field-room : (length l ≤ 64) × (at ≤ length l) × (0 + length (fieldKept k (baseOf f) l at) ≤ length out)
+      pub field-room : (length l ≤ 64) × (fieldForm l at ≡ Fine) × (0 + length (fieldKept k (baseOf f) l at) ≤ length out)
       field-room =
           let x = fine-in l at fine in
           let y = field-fits l at (x .1) in
-          (x .0, omega (arith, y), omega (arith, y, x .0, kept-fits k l (x .0) f at octets (x .1)))
+          (x .0, x .1, omega (arith, y, x .0, kept-fits k l (x .0) f at octets (x .1)))
 
       -- which is the answer
       pub rewrites-fine : (out₁ : List ℕ) (e : ℕ) (r : Spot) → Puts (fieldKept k (baseOf f) l at) e out 0 out₁ r → Rewrites k f l at out (r .to) out₁

@@ -17,7 +17,10 @@ use lib.Seq.{sets, length-sets, drop-cons}
 use Rattle.octets.specs.Places.{pick}
 use Rattle.tree.specs.Block.{setBits, blockNumbers, numbers, behind, ended}
 use Rattle.tree.specs.Codes.{subsBehind, groupBehind, parsBehind, restBehind, fieldBehind, ofS}
+use Rattle.tree.specs.Form.{formAt, groupForm, parsForm}
+use Rattle.tree.specs.declared.Form.the-variants.{Fine}
 use Rattle.tree.proofs.Few.{few, group-few}
+use Rattle.tree.proofs.Forms.{and-parts}
 use Rattle.tree.proofs.Filling.{sets-append}
 use Rattle.tree.proofs.Lowest.{Lowest, lowest, bits-none, bits-below}
 use Rattle.meaning.specs.Written.{marked}
@@ -27,7 +30,7 @@ use Rattle.names.specs.Masks.{nparPlaces, sparPlaces}
 use Rattle.names.specs.Inner.{keptPlace}
 use Rattle.names.specs.declared.Keep.{Keep}
 use Rattle.names.specs.declared.Places.{Places}
-use Rattle.strike.specs.Inner.{sieved, blockKept, subKept, subsKept, lowerKept, groupKept, wholePar, parKept, parsKept, restKept, fieldKept, Puts}
+use Rattle.strike.specs.Inner.{sieved, blockKept, SubsFine, subKept, subsKept, lowerKept, groupKept, wholePar, parKept, parsKept, restKept, fieldKept, Puts}
 use Rattle.strike.specs.declared.Spot.{Spot}
 
 -- ---- octets put one run after the other
@@ -68,15 +71,15 @@ marked-length [] = refl
 marked-length (d ∷ ds) = length-marked d ds
 
 -- bit 8 is set in the last octet that was put
-pub puts-marked : {a : List ℕ} {e : ℕ} {out₀ : List ℕ} {to : ℕ} {out₁ out₂ : List ℕ} {r : Spot} → Puts a e out₀ to out₁ r → 0 < length a → to + length a ≤ length out₀
-    → out₂ ≡ set out₁ (r .to - 1) (getD out₁ (r .to - 1) 0 % 128 + 128) → Puts (marked a) e out₀ to out₂ r
-puts-marked {a = []} x some room m = absurd (omega arith)
-puts-marked {a = d ∷ ds} {out₀ = out₀} {to} {r = r} x some room m =
+pub puts-marked : {a : List ℕ} {e : ℕ} {out₀ : List ℕ} {to : ℕ} {out₁ : List ℕ} {r : Spot} → Puts a e out₀ to out₁ r → 0 < length a → to + length a ≤ length out₀
+    → Puts (marked a) e out₀ to (set out₁ (r .to - 1) (getD out₁ (r .to - 1) 0 % 128 + 128)) r
+puts-marked {a = []} x some room = absurd (omega arith)
+puts-marked {a = d ∷ ds} {out₀ = out₀} {to} {r = r} x some room =
     let n : r .to - 1 ≡ to + length ds = omega (arith, x .at) in
     record {
       read = x .read;
       at = omega (arith, x .at, length-marked d ds);
-      out = m ∙ rw (n, x .out) (sets-marked d ds out₀ to room);
+      out = rw (n, x .out) (sets-marked d ds out₀ to room);
     }
 
 -- ---- the octets of several positions
@@ -85,40 +88,61 @@ puts-marked {a = d ∷ ds} {out₀ = out₀} {to} {r = r} x some room m =
 pub behind-within : (m : ℕ) (l : List ℕ) (e : ℕ) → e ≤ length l → behind m l e ≤ length l
 behind-within m l e h = few 0 m 0 l e h .1
 
--- octets made of positions one after the other, each read at the place behind the one before, and never behind the end
-pub record Stepped (one : ℕ → ℕ → List ℕ) (many : List ℕ → ℕ → List ℕ) (past : ℕ → ℕ) (pasts : ℕ → ℕ → ℕ) (size : ℕ) : Type 0 where
+-- a Par(2) block is well-formed
+abbrev pub ParFine : List ℕ → ℕ → Type 0
+ParFine l e = (formAt 64 l e ≡ Fine) × (groupForm l (behind 64 l e) ≡ Fine)
+
+-- octets made of positions one after the other, each read at the place behind the one before, and never behind the end; so many of them are
+-- well-formed from a place on
+pub record Stepped (one : ℕ → ℕ → List ℕ) (many : List ℕ → ℕ → List ℕ) (past : ℕ → ℕ) (pasts : ℕ → ℕ → ℕ) (fine : ℕ → Type 0) (fines : ℕ → ℕ → Type 0) (size : ℕ) : Type 1 where
   pub none : (e : ℕ) → many [] e ≡ []
   pub next : (q : ℕ) (qs : List ℕ) (e : ℕ) → many (q ∷ qs) e ≡ one q e ++ many qs (past e)
   pub stay : (e : ℕ) → pasts 0 e ≡ e
   pub pass : (k e : ℕ) → pasts (suc k) e ≡ pasts k (past e)
   pub within : (e : ℕ) → e ≤ size → past e ≤ size
+  pub each : (k e : ℕ) → fines (suc k) e → fine e × fines k (past e)
+  pub nothing : (e : ℕ) → fines 0 e
+  pub both : (k e : ℕ) → fine e → fines k (past e) → fines (suc k) e
 
 -- NPar(3) blocks, and Par(2) blocks
 pub subs-stepped : (k : Keep) (c : ℕ) (p : Places) (l : List ℕ)
-    → Stepped (λ t e. subKept k c p t l e) (λ ts e. subsKept k c p ts l e) (λ e. behind 64 l e) (λ n e. subsBehind n l e) (length l)
-unfolding subsKept subsBehind
-subs-stepped k c p l = record { none = λ e. refl; next = λ q qs e. refl; stay = λ e. refl; pass = λ n e. refl; within = λ e h. behind-within 64 l e h }
+    → Stepped (λ t e. subKept k c p t l e) (λ ts e. subsKept k c p ts l e) (λ e. behind 64 l e) (λ n e. subsBehind n l e) (λ e. formAt 64 l e ≡ Fine) (λ n e. SubsFine n l e) (length l)
+unfolding subsKept subsBehind SubsFine
+subs-stepped k c p l = record {
+  none = λ e. refl;
+  next = λ q qs e. refl;
+  stay = λ e. refl;
+  pass = λ n e. refl;
+  within = λ e h. behind-within 64 l e h;
+  each = λ n e h. h;
+  nothing = λ e. tt;
+  both = λ n e h g. (h, g);
+}
 
 pub pars-stepped : (k : Keep) (b : ℕ) (p : Places) (l : List ℕ)
-    → Stepped (λ q e. parKept k b p q l e) (λ qs e. parsKept k b p qs l e) (λ e. groupBehind l (behind 64 l e)) (λ n e. parsBehind n l e) (length l)
-unfolding parsKept parsBehind
+    → Stepped (λ q e. parKept k b p q l e) (λ qs e. parsKept k b p qs l e) (λ e. groupBehind l (behind 64 l e)) (λ n e. parsBehind n l e) (λ e. ParFine l e) (λ n e. parsForm n l e ≡ Fine) (length l)
+unfolding parsKept parsBehind parsForm
 pars-stepped k b p l = record {
   none = λ e. refl;
   next = λ q qs e. refl;
   stay = λ e. refl;
   pass = λ n e. refl;
   within = λ e h. group-few 0 l (behind 64 l e) (behind-within 64 l e h) .1;
+  each = λ n e h. let x = and-parts (formAt 64 l e) _ h in let y = and-parts (groupForm l (behind 64 l e)) _ (x .1) in ((x .0, y .0), y .1);
+  nothing = λ e. refl;
+  both = λ n e h g. rw (h .0, h .1) g;
 }
 
 -- of the octets that all positions give from a spot on, all but those that the positions still to come give from here on were put
-pub record Going (many : List ℕ → ℕ → List ℕ) (pasts : ℕ → ℕ → ℕ) (size : ℕ) (all : List ℕ) (start : Spot) (out₀ : List ℕ) (todo out : List ℕ) (spot : Spot) : Type 0 where
+pub record Going (many : List ℕ → ℕ → List ℕ) (pasts : ℕ → ℕ → ℕ) (fines : ℕ → ℕ → Type 0) (size : ℕ) (all : List ℕ) (start : Spot) (out₀ : List ℕ) (todo out : List ℕ) (spot : Spot) : Type 0 where
   pub within : spot .from ≤ size
+  pub fine : fines (length todo) (spot .from)
   pub read : pasts (length todo) (spot .from) ≡ pasts (length all) (start .from)
   pub at : spot .to + length (many todo (spot .from)) ≡ start .to + length (many all (start .from))
   pub puts : sets out (spot .to) (many todo (spot .from)) ≡ sets out₀ (start .to) (many all (start .from))
   pub long : length out ≡ length out₀
 
-module _ {one : ℕ → ℕ → List ℕ} {many : List ℕ → ℕ → List ℕ} {past : ℕ → ℕ} {pasts : ℕ → ℕ → ℕ} {size : ℕ} (x : Stepped one many past pasts size) where
+module _ {one : ℕ → ℕ → List ℕ} {many : List ℕ → ℕ → List ℕ} {past : ℕ → ℕ} {pasts : ℕ → ℕ → ℕ} {fine : ℕ → Type 0} {fines : ℕ → ℕ → Type 0} {size : ℕ} (x : Stepped one many past pasts fine fines size) where
   -- over two lists of positions
   pub many-append : (qs ts : List ℕ) (e : ℕ) → many (qs ++ ts) e ≡ many qs e ++ many ts (pasts (length qs) e)
   many-append [] ts e = rw (x .none e, x .stay e)
@@ -141,31 +165,43 @@ module _ {one : ℕ → ℕ → List ℕ} {many : List ℕ → ℕ → List ℕ}
   pasts-within zero e h = rw (x .stay e) h
   pasts-within (suc k) e h = rw (x .pass k e) (pasts-within k (past e) (x .within e h))
 
+  -- of two lists of positions that are fine together, each is
+  fines-parts : (qs ts : List ℕ) (e : ℕ) → fines (length (qs ++ ts)) e → fines (length qs) e × fines (length ts) (pasts (length qs) e)
+  fines-parts [] ts e h = (x .nothing e, rw (x .stay e) h)
+  fines-parts (q ∷ qs) ts e h =
+      let y = x .each (length (qs ++ ts)) e h in
+      let z = fines-parts qs ts (past e) (y .1) in
+      (x .both (length qs) e (y .0) (z .0), rw (x .pass (length qs) e) (z .1))
+
   -- nothing was put yet
-  pub going-none : (all out : List ℕ) (start : Spot) → start .from ≤ size → Going many pasts size all start out all out start
-  going-none all out start h = record { within = h; read = refl; at = refl; puts = refl; long = refl }
+  pub going-none : (all out : List ℕ) (start : Spot) → start .from ≤ size → fines (length all) (start .from) → Going many pasts fines size all start out all out start
+  going-none all out start h f = record { within = h; fine = f; read = refl; at = refl; puts = refl; long = refl }
 
   -- all were put
-  pub going-end : {all out₀ out : List ℕ} {start spot : Spot} → Going many pasts size all start out₀ [] out spot
+  pub going-end : {all out₀ out : List ℕ} {start spot : Spot} → Going many pasts fines size all start out₀ [] out spot
       → Puts (many all (start .from)) (pasts (length all) (start .from)) out₀ (start .to) out spot
   going-end {spot = spot} g =
       let e : length (many [] (spot .from)) ≡ 0 = rw (x .none (spot .from)) in
       record { read = sym (x .stay (spot .from)) ∙ g .read; at = omega (arith, g .at, e); out = rw (x .none (spot .from)) at (g .puts) }
 
   -- some positions, and others behind them, are still to come
-  module _ {all out₀ : List ℕ} {start : Spot} (qs todo : List ℕ) {out : List ℕ} {spot : Spot} (g : Going many pasts size all start out₀ (qs ++ todo) out spot) where
+  module _ {all out₀ : List ℕ} {start : Spot} (qs todo : List ℕ) {out : List ℕ} {spot : Spot} (g : Going many pasts fines size all start out₀ (qs ++ todo) out spot) where
     pub going-room : start .to + length (many all (start .from)) ≤ length out₀ → spot .to + length (many qs (spot .from)) ≤ length out
     going-room h =
         let e = ap length (many-append qs todo (spot .from)) in
         omega (arith, g .at, g .long, e, length-append (many qs (spot .from)) (many todo (pasts (length qs) (spot .from))))
 
+    pub going-fine : fines (length qs) (spot .from)
+    going-fine = fines-parts qs todo (spot .from) (g .fine) .0
+
     pub going-turn : {out₁ : List ℕ} {spot₁ : Spot} → Puts (many qs (spot .from)) (pasts (length qs) (spot .from)) out (spot .to) out₁ spot₁
-        → Going many pasts size all start out₀ todo out₁ spot₁
+        → Going many pasts fines size all start out₀ todo out₁ spot₁
     going-turn y =
         let e = many-append qs todo (spot .from) in
         let rest = many todo (pasts (length qs) (spot .from)) in
         record {
           within = rw (y .read) (pasts-within (length qs) (spot .from) (g .within));
+          fine = rw (y .read) (fines-parts qs todo (spot .from) (g .fine) .1);
           read = rw (y .read) (sym (pasts-append qs todo (spot .from)) ∙ g .read);
           at = rw (y .read) (omega (arith, y .at, g .at, ap length e, length-append (many qs (spot .from)) rest));
           puts = rw (y .read, y .at, y .out) (sym (sets-append out (spot .to) (many qs (spot .from)) rest) ∙ ap (sets out (spot .to)) (sym e) ∙ g .puts);
@@ -173,36 +209,39 @@ module _ {one : ℕ → ℕ → List ℕ} {many : List ℕ → ℕ → List ℕ}
         }
 
   -- a single one, and others behind it
-  module _ {all out₀ : List ℕ} {start : Spot} (q : ℕ) (todo : List ℕ) {out : List ℕ} {spot : Spot} (g : Going many pasts size all start out₀ (q ∷ todo) out spot) where
+  module _ {all out₀ : List ℕ} {start : Spot} (q : ℕ) (todo : List ℕ) {out : List ℕ} {spot : Spot} (g : Going many pasts fines size all start out₀ (q ∷ todo) out spot) where
     pub going-room-one : start .to + length (many all (start .from)) ≤ length out₀ → spot .to + length (one q (spot .from)) ≤ length out
     going-room-one h = rw (many-one q (spot .from)) at (going-room (q ∷ []) todo g h)
 
+    pub going-fine-one : fine (spot .from)
+    going-fine-one = x .each (length todo) (spot .from) (g .fine) .0
+
     pub going-turn-one : {out₁ : List ℕ} {spot₁ : Spot} → Puts (one q (spot .from)) (past (spot .from)) out (spot .to) out₁ spot₁
-        → Going many pasts size all start out₀ todo out₁ spot₁
+        → Going many pasts fines size all start out₀ todo out₁ spot₁
     going-turn-one y = going-turn (q ∷ []) todo g (rw (← (many-one q (spot .from)), ← (pasts-one (spot .from))) at y)
 
 -- ---- the positions set in one octet
 
 -- of the w positions of an octet above a number those up to p were looked at; the others, left, are the bits of a number
-pub record BitsGoing (many : List ℕ → ℕ → List ℕ) (pasts : ℕ → ℕ → ℕ) (size w above octet : ℕ) (start : Spot) (out₀ out : List ℕ) (spot : Spot) (bits p : ℕ) : Type 0 where
+pub record BitsGoing (many : List ℕ → ℕ → List ℕ) (pasts : ℕ → ℕ → ℕ) (fines : ℕ → ℕ → Type 0) (size w above octet : ℕ) (start : Spot) (out₀ out : List ℕ) (spot : Spot) (bits p : ℕ) : Type 0 where
   pub left : ℕ
   pub few : left ≤ w
   pub fits : bits < 2 ^ left
   pub reach : p + left ≡ above + w
-  pub going : Going many pasts size (setBits w above octet) start out₀ (setBits left p bits) out spot
+  pub going : Going many pasts fines size (setBits w above octet) start out₀ (setBits left p bits) out spot
 
-module _ {one : ℕ → ℕ → List ℕ} {many : List ℕ → ℕ → List ℕ} {past : ℕ → ℕ} {pasts : ℕ → ℕ → ℕ} {size : ℕ} (x : Stepped one many past pasts size) {w above octet : ℕ} where
+module _ {one : ℕ → ℕ → List ℕ} {many : List ℕ → ℕ → List ℕ} {past : ℕ → ℕ} {pasts : ℕ → ℕ → ℕ} {fine : ℕ → Type 0} {fines : ℕ → ℕ → Type 0} {size : ℕ} (x : Stepped one many past pasts fine fines size) {w above octet : ℕ} where
   -- none was looked at yet
-  pub bits-start : (out : List ℕ) (start : Spot) → start .from ≤ size → BitsGoing many pasts size w above octet start out out start (octet % 2 ^ w) above
-  bits-start out start h = record {
+  pub bits-start : (out : List ℕ) (start : Spot) → start .from ≤ size → fines (length (setBits w above octet)) (start .from) → BitsGoing many pasts fines size w above octet start out out start (octet % 2 ^ w) above
+  bits-start out start h f = record {
     left = w;
     few = omega arith;
     fits = mod-lt octet (pow-pos w);
     reach = refl;
-    going = rw (bits-below w above octet) (going-none x (setBits w above octet) out start h);
+    going = rw (bits-below w above octet) (going-none x (setBits w above octet) out start h f);
   }
 
-  module _ {out₀ out : List ℕ} {start spot : Spot} {bits p : ℕ} (y : BitsGoing many pasts size w above octet start out₀ out spot bits p) where
+  module _ {out₀ out : List ℕ} {start spot : Spot} {bits p : ℕ} (y : BitsGoing many pasts fines size w above octet start out₀ out spot bits p) where
     -- all were
     pub bits-end : bits ≡ 0 → Puts (many (setBits w above octet) (start .from)) (pasts (length (setBits w above octet)) (start .from)) out₀ (start .to) out spot
     bits-end z = let none : setBits (y .left) p bits ≡ [] = rw z (bits-none (y .left) p) in going-end x (rw none at (y .going))
@@ -221,14 +260,17 @@ module _ {one : ℕ → ℕ → List ℕ} {many : List ℕ → ℕ → List ℕ}
       pub bits-less : bits / 2 ^ trailingZeros 8 bits / 2 < bits
       bits-less = omega (arith, shr-le bits (trailingZeros 8 bits))
 
-      here : Going many pasts size (setBits w above octet) start out₀ (next ∷ setBits (y .left - (trailingZeros 8 bits + 1)) next (bits / 2 ^ trailingZeros 8 bits / 2)) out spot
+      here : Going many pasts fines size (setBits w above octet) start out₀ (next ∷ setBits (y .left - (trailingZeros 8 bits + 1)) next (bits / 2 ^ trailingZeros 8 bits / 2)) out spot
       here = rw (low .1) at (y .going)
 
       pub bits-room : start .to + length (many (setBits w above octet) (start .from)) ≤ length out₀ → spot .to + length (one next (spot .from)) ≤ length out
       bits-room = going-room-one x next (setBits (y .left - (trailingZeros 8 bits + 1)) next (bits / 2 ^ trailingZeros 8 bits / 2)) here
 
+      pub bits-fine : fine (spot .from)
+      bits-fine = going-fine-one x next (setBits (y .left - (trailingZeros 8 bits + 1)) next (bits / 2 ^ trailingZeros 8 bits / 2)) here
+
       pub bits-turn : {out₁ : List ℕ} {spot₁ : Spot} → Puts (one next (spot .from)) (past (spot .from)) out (spot .to) out₁ spot₁
-          → BitsGoing many pasts size w above octet start out₀ out₁ spot₁ (bits / 2 ^ trailingZeros 8 bits / 2) next
+          → BitsGoing many pasts fines size w above octet start out₀ out₁ spot₁ (bits / 2 ^ trailingZeros 8 bits / 2) next
       bits-turn r = record {
         left = y .left - (trailingZeros 8 bits + 1);
         few = omega (arith, y .few);
@@ -246,16 +288,16 @@ unfolding blockNumbers
 block-next w m p i l h = rw (add-one i, drop-cons l i 0 h)
 
 -- of the block at place e all octets before place i were looked at, and none was its last; those of the octet at i stand above p
-pub record OctetsGoing (many : List ℕ → ℕ → List ℕ) (pasts : ℕ → ℕ → ℕ) (w m : ℕ) (l : List ℕ) (e : ℕ) (start : Spot) (out₀ out : List ℕ) (spot : Spot) (p i : ℕ) : Type 0 where
-  pub going : Going many pasts (length l) (numbers w m 0 l e) start out₀ (numbers w m p l i) out spot
+pub record OctetsGoing (many : List ℕ → ℕ → List ℕ) (pasts : ℕ → ℕ → ℕ) (fines : ℕ → ℕ → Type 0) (w m : ℕ) (l : List ℕ) (e : ℕ) (start : Spot) (out₀ out : List ℕ) (spot : Spot) (p i : ℕ) : Type 0 where
+  pub going : Going many pasts fines (length l) (numbers w m 0 l e) start out₀ (numbers w m p l i) out spot
   pub reach : p ≤ w * i
 
-module _ {l : List ℕ} {one : ℕ → ℕ → List ℕ} {many : List ℕ → ℕ → List ℕ} {past : ℕ → ℕ} {pasts : ℕ → ℕ → ℕ} (x : Stepped one many past pasts (length l)) {w m e : ℕ} where
+module _ {l : List ℕ} {one : ℕ → ℕ → List ℕ} {many : List ℕ → ℕ → List ℕ} {past : ℕ → ℕ} {pasts : ℕ → ℕ → ℕ} {fine : ℕ → Type 0} {fines : ℕ → ℕ → Type 0} (x : Stepped one many past pasts fine fines (length l)) {w m e : ℕ} where
   -- none was looked at yet, and the octets are at their end
-  pub octets-none : (out : List ℕ) (start : Spot) → start .from ≤ length l → OctetsGoing many pasts w m l e start out out start 0 e
-  octets-none out start h = record { going = going-none x (numbers w m 0 l e) out start h; reach = omega arith }
+  pub octets-none : (out : List ℕ) (start : Spot) → start .from ≤ length l → fines (length (numbers w m 0 l e)) (start .from) → OctetsGoing many pasts fines w m l e start out out start 0 e
+  octets-none out start h f = record { going = going-none x (numbers w m 0 l e) out start h f; reach = omega arith }
 
-  module _ {out₀ out : List ℕ} {start spot : Spot} {p i : ℕ} (y : OctetsGoing many pasts w m l e start out₀ out spot p i) where
+  module _ {out₀ out : List ℕ} {start spot : Spot} {p i : ℕ} (y : OctetsGoing many pasts fines w m l e start out₀ out spot p i) where
     pub octets-end : length l ≤ i
         → Puts (many (numbers w m 0 l e) (start .from)) (pasts (length (numbers w m 0 l e)) (start .from)) out₀ (start .to) out spot
     unfolding blockNumbers
@@ -266,20 +308,23 @@ module _ {l : List ℕ} {one : ℕ → ℕ → List ℕ} {many : List ℕ → �
       abbrev rest : List ℕ
       rest = pick (ltb (getD l i 0) m) (numbers w m (p + w) l (i + 1)) []
 
-      there : Going many pasts (length l) (numbers w m 0 l e) start out₀ (setBits w p (getD l i 0) ++ rest) out spot
+      there : Going many pasts fines (length l) (numbers w m 0 l e) start out₀ (setBits w p (getD l i 0) ++ rest) out spot
       there = rw (block-next w m p i l h) at (y .going)
 
       pub octets-room : start .to + length (many (numbers w m 0 l e) (start .from)) ≤ length out₀
           → spot .to + length (many (setBits w p (getD l i 0)) (spot .from)) ≤ length out
       octets-room = going-room x (setBits w p (getD l i 0)) rest there
 
+      pub octets-fine : fines (length (setBits w p (getD l i 0))) (spot .from)
+      octets-fine = going-fine x (setBits w p (getD l i 0)) rest there
+
       module _ {out₁ : List ℕ} {spot₁ : Spot}
           (z : Puts (many (setBits w p (getD l i 0)) (spot .from)) (pasts (length (setBits w p (getD l i 0))) (spot .from)) out (spot .to) out₁ spot₁) where
-        after : Going many pasts (length l) (numbers w m 0 l e) start out₀ rest out₁ spot₁
+        after : Going many pasts fines (length l) (numbers w m 0 l e) start out₀ rest out₁ spot₁
         after = going-turn x (setBits w p (getD l i 0)) rest there z
 
         -- it is not the last of the block, or it is
-        pub octets-turn : getD l i 0 < m → OctetsGoing many pasts w m l e start out₀ out₁ spot₁ (p + w) (i + 1)
+        pub octets-turn : getD l i 0 < m → OctetsGoing many pasts fines w m l e start out₀ out₁ spot₁ (p + w) (i + 1)
         octets-turn k = record { going = rw (lt-ltb _ _ k) at after; reach = omega (arith, y .reach) }
 
         pub octets-last : m ≤ getD l i 0
@@ -368,11 +413,12 @@ module _ (k : Keep) (c : ℕ) (l : List ℕ) (e : ℕ) {p : Places} (n : p ≡ n
         whole-some : 0 < length (blockKept 6 64 p l e ++ groupKept k c l (behind 64 l e))
         whole-some = omega (arith, length-append (blockKept 6 64 p l e) (groupKept k c l (behind 64 l e)), block-some 6 64 (sieved 6 64 p l e))
 
-        pub whole-puts : {out₃ : List ℕ} → out₃ ≡ pick (ltb 0 (v .to)) (set out₂ (v .to - 1) (getD out₂ (v .to - 1) 0 % 128 + 128)) out₂
-            → Puts (wholePar k c l e) (groupBehind l (behind 64 l e)) out₀ to out₃ v
-        whole-puts m =
-            let some : 0 < v .to = omega (arith, whole-put .at, whole-some) in
-            rw whole-is (puts-marked whole-put whole-some within (rw (lt-ltb 0 (v .to) some) at m))
+        -- and so a last one, within the output
+        pub whole-last : (0 < v .to) × (v .to ≤ length out₂)
+        whole-last = omega (arith, whole-put .at, whole-some, puts-size whole-put, within)
+
+        pub whole-puts : Puts (wholePar k c l e) (groupBehind l (behind 64 l e)) out₀ to (set out₂ (v .to - 1) (getD out₂ (v .to - 1) 0 % 128 + 128)) v
+        whole-puts = rw whole-is (puts-marked whole-put whole-some within)
 
 -- a field: NPar(1), SPar(1) and its blocks
 module _ (k : Keep) (b : ℕ) (l : List ℕ) (at : ℕ) {n : Places} (np : n ≡ nparPlaces k b) (out₀ : List ℕ) (to : ℕ) (room : to + length (fieldKept k b l at) ≤ length out₀) where

@@ -3,6 +3,7 @@ pub mod Copying
 pub mod Extents
 pub mod Filling
 pub mod Storing
+pub mod Passing
 pub mod Going
 pub mod Filtering
 pub mod Crossing

@@ -13,7 +13,10 @@ use Rattle.octets.specs.Lay.{put}
 use Rattle.octets.proofs.Laying.{length-put}
 use Rattle.tree.proofs.Filling.{sets-append}
 use Rattle.tree.specs.Codes.{fieldBase}
+use Rattle.tree.specs.Form.{fieldForm}
+use Rattle.tree.specs.declared.Form.the-variants.{Fine}
 use Rattle.message.specs.Kinds.{hasFields, typeOf}
+use Rattle.message.specs.Nonstandard.{tailForm}
 use Rattle.tree.specs.Fields.{mostOctets}
 use Rattle.message.specs.Reader.{listRoom, standardAt, tailAt, refused, accepted, readMessage}
 use Rattle.message.proofs.Accepted.{Passed, accepted-passed}
@@ -25,7 +28,7 @@ use Rattle.strike.specs.declared.Spot.{Spot}
 use Rattle.strike.specs.declared.Struck.{Struck}
 use Rattle.strike.specs.declared.Struck.the-variants.{Octets, BadLent}
 use Rattle.strike.proofs.Storing.{sets-front}
-use Rattle.strike.proofs.StruckForms.{struck-fields, struck-one, parts-fit-struck, struck-is-no-longer}
+use Rattle.strike.proofs.StruckForms.{struck-fields, struck-one, parts-well, parts-fit-struck, struck-is-no-longer}
 
 -- ---- the struck form, put
 
@@ -98,18 +101,21 @@ module _ {l : List ℕ} {kind standard tail : ℕ} {out : List ℕ} {k : Keep} (
     whole : struckForm l ≡ getD l 0 0 ∷ (firstKept l ++ (secondKept l ++ restOf l))
     whole = struck-fields l fields listRoom (h .well)
 
+    well : (fieldForm l 1 ≡ Fine) × (fieldForm l (standardAt l) ≡ Fine) × (tailForm l (tailAt l) ≡ Fine)
+    well = parts-well l fields listRoom (h .well)
+
     -- I has room behind octet 1
-    pub first-room : (length l ≤ 64) × (1 ≤ length l) × (1 + length (fieldKept Named (fieldBase 1) l 1) ≤ length (set out 0 (getD l 0 0)))
-    first-room = (passed .few, omega (arith, passed .some), rw (length-set out 0 (getD l 0 0)) (omega (arith, fit, passed .few, h .room)))
+    pub first-room : (length l ≤ 64) × (fieldForm l 1 ≡ Fine) × (1 + length (fieldKept Named (fieldBase 1) l 1) ≤ length (set out 0 (getD l 0 0)))
+    first-room = (passed .few, well .0, rw (length-set out 0 (getD l 0 0)) (omega (arith, fit, passed .few, h .room)))
 
     module _ {out₁ : List ℕ} {e : ℕ} {one : Spot} (p : Puts (fieldKept Named (fieldBase 1) l 1) e (set out 0 (getD l 0 0)) 1 out₁ one) where
       same-out : length out₁ ≡ length out
       same-out = ap length (p .out) ∙ length-sets (set out 0 (getD l 0 0)) 1 (firstKept l) ∙ length-set out 0 (getD l 0 0)
 
       -- S has room behind I
-      pub second-room : (length l ≤ 64) × (standard ≤ length l) × (one .to + length (fieldKept k (fieldBase 2) l standard) ≤ length out₁)
+      pub second-room : (length l ≤ 64) × (fieldForm l standard ≡ Fine) × (one .to + length (fieldKept k (fieldBase 2) l standard) ≤ length out₁)
       second-room =
-          (passed .few, omega (arith, fit, h .standardIs), rw (second-same h) (omega (arith, fit, same-out, p .at, passed .few, h .room)))
+          (passed .few, rw (h .standardIs) (well .1), rw (second-same h) (omega (arith, fit, same-out, p .at, passed .few, h .room)))
 
       module _ {out₂ : List ℕ} {e₂ : ℕ} {two : Spot} (q : Puts (fieldKept k (fieldBase 2) l standard) e₂ out₁ (one .to) out₂ two) where
         length-two : two .to ≡ 1 + length (firstKept l) + length (secondKept l)

@@ -106,8 +106,9 @@ module _ (l : List ℕ) (h : hasFields (typeOf l) ≡ true) where
     few : length l ≤ 64
     few = accepted-readable l room e .few
 
-    fine : (fieldForm l 1 ≡ Fine) × (fieldForm l (standardAt l) ≡ Fine) × (tailForm l (tailAt l) ≡ Fine)
-    fine = parts-fine l (fields-fine l room e h)
+    -- each part is well-formed
+    pub parts-well : (fieldForm l 1 ≡ Fine) × (fieldForm l (standardAt l) ≡ Fine) × (tailForm l (tailAt l) ≡ Fine)
+    parts-well = parts-fine l (fields-fine l room e h)
 
     -- octet 1, each field with what is kept of it, and what stands behind S
     pub struck-fields :
@@ -124,10 +125,10 @@ module _ (l : List ℕ) (h : hasFields (typeOf l) ≡ true) where
         → (1 + length (fieldKept Named (fieldBase 1) l 1) ≤ standardAt l)
         × (length (fieldKept (standardKeep (typeOf l)) (fieldBase 2) l (standardAt l)) + standardAt l ≤ tailAt l) × (tailAt l ≤ length l)
     parts-fit-struck o =
-        let one = kept-fits Named l few Identification 1 o (fine .0) in
-        let two = kept-fits (standardKeep (typeOf l)) l few Standard (standardAt l) o (fine .1) in
-        let x = field-fits l 1 (fine .0) in
-        let y = field-fits l (standardAt l) (fine .1) in
+        let one = kept-fits Named l few Identification 1 o (parts-well .0) in
+        let two = kept-fits (standardKeep (typeOf l)) l few Standard (standardAt l) o (parts-well .1) in
+        let x = field-fits l 1 (parts-well .0) in
+        let y = field-fits l (standardAt l) (parts-well .1) in
         (omega arith, omega arith, y .1)
 
     -- so the whole is
@@ -145,7 +146,7 @@ module _ (l : List ℕ) (h : hasFields (typeOf l) ≡ true) where
         let m = stays-means l few in
         let agrees : nsAgrees (struckCodes l) (nsOf l) ≡ true =
         rw (struck-codes-fields, ns-behind l room e h)
-        (tail-agrees l (firstStays l ++ secondStays l) (tailAt l) (parts-fit l (fields-fine l room e h) .1) (still-announced l few) ∙ ap isFine (fine .2)) in
+        (tail-agrees l (firstStays l ++ secondStays l) (tailAt l) (parts-fit l (fields-fine l room e h) .1) (still-announced l few) ∙ ap isFine (parts-well .2)) in
         record {
           space = s;
           known-kind = a .known-kind;

@@ -1,7 +1,7 @@
 -- Inner: a field rewritten block by block, as the code does it. A block's positions are sieved and written as a minimal block; a
 -- block whose SPar is not kept is passed over whole. One law says that it is `kept`.
 -- Assumes nothing.
-use Prim.Native.Nat.{ℕ, _+_, _*_, _/_, _^_}
+use Prim.Native.Nat.{ℕ, zero, suc, _+_, _*_, _/_, _^_}
 use mathlib.Core.List.{List, [], _∷_, _++_}
 use mathlib.Core.Path.{_≡_}
 use lib.Dec.{eqb}
@@ -10,6 +10,8 @@ use lib.Seq.{sets}
 use Rattle.octets.specs.Places.{pick}
 use Rattle.tree.specs.Block.{numbers, behind, ended}
 use Rattle.tree.specs.Codes.{ofT, groupBehind, ofS}
+use Rattle.tree.specs.Form.{formAt}
+use Rattle.tree.specs.declared.Form.the-variants.{Fine}
 use Rattle.message.specs.Kinds.{ms}
 use Rattle.meaning.specs.Written.{blockOctets, marked}
 use Rattle.meaning.specs.Writing.{isEmpty}
@@ -30,6 +32,11 @@ sieved w m p l e = only (keptPlace p) (numbers w m 0 l e)
 
 abbrev pub blockKept : ℕ → ℕ → Places → List ℕ → ℕ → List ℕ
 blockKept w m p l e = blockOctets w m (sieved w m p l e)
+
+-- so many blocks below level 1, one after the other from place e on, are well-formed
+unfoldable pub SubsFine : ℕ → List ℕ → ℕ → Type 0
+SubsFine zero l e = Unit {0}
+SubsFine (suc k) l e = (formAt 64 l e ≡ Fine) × SubsFine k l (behind 64 l e)
 
 -- the NPar(3) block of one SPar(2) position, and those of several, from place e on; p says which SPar(2) are kept
 unfoldable pub subKept : Keep → ℕ → Places → ℕ → List ℕ → ℕ → List ℕ

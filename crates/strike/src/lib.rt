@@ -1,22 +1,26 @@
 // Striking (RULES, Striking): a field is rewritten block by block with what is kept of it, so that no list of numbers is
 // ever held; and a message is struck.
+ghost use mathlib.Core.Bool.{false};
 ghost use mathlib.Core.Path.{_≡_};
 ghost use Prim.Native.Nat.{_+_, _-_, _*_, _/_, _%_, _^_, _≤_, _<_};
 ghost use lib.Bits.{bitAnd};
-ghost use lib.ListN.{length, set, getD, drop};
+ghost use lib.Dec.{eqb};
+ghost use lib.ListN.{length, drop};
 ghost use lib.Seq.{sets};
 ghost use Rattle.octets.specs.Lay.{put};
 ghost use Rattle.octets.specs.Places.{pick};
 ghost use Rattle.tree.specs.Block.{setBits, numbers, behind};
 ghost use Rattle.tree.specs.Codes.{fieldBase, groupBehind, parsBehind, subsBehind, fieldBehind};
 ghost use Rattle.tree.specs.Fields.{baseOf, mostOctets};
+ghost use Rattle.tree.specs.Form.{formAt, groupForm, parsForm, fieldForm};
+ghost use Rattle.tree.specs.declared.Form.the-variants.{Fine};
 ghost use Rattle.message.specs.Kinds.{typeOf};
 ghost use Rattle.message.specs.Reader.{listRoom, standardAt, tailAt, readMessage, accepted};
 ghost use Rattle.meaning.specs.Writing.{isEmpty};
 ghost use Rattle.names.specs.Inner.{keptPlace};
 ghost use Rattle.strike.specs.Rewriting.{Rewrites};
 ghost use Rattle.strike.specs.Striking.{struckForm, Strikes};
-ghost use Rattle.strike.specs.Inner.{namesAt, sieved, blockKept, subKept, subsKept, groupKept, wholePar, parKept, parsKept, fieldKept, standardKeep, Puts};
+ghost use Rattle.strike.specs.Inner.{namesAt, sieved, blockKept, SubsFine, subKept, subsKept, groupKept, wholePar, parKept, parsKept, fieldKept, standardKeep, Puts};
 use message::ACK_1;
 use message::MS;
 use message::MessageCheck;
@@ -31,11 +35,9 @@ use tree::MOST_OCTETS;
 use tree::OF_S;
 use tree::OF_T;
 use tree::base_of;
-use tree::bit8;
 use tree::block_behind;
 use tree::field_end;
-use tree::group_behind;
-use tree::mark_last;
+use tree::top_behind;
 
 // How far reading and writing have come.
 struct Spot {
@@ -137,11 +139,24 @@ fn block_extent(s: &[u8], e: usize, w: u32, m: u8, places: Places) -> Extent
     Extent { count, end: i }
 }
 
+// Whether no position is kept: so it is with SPar(2) under most SPar(1), whose blocks need not be looked at then.
+fn has_none(places: Places) -> bool
+    ensures { λ r. ⌜ r ≡ pick (places .all) false (eqb (places .bits) 0) ⌝ }
+{
+    if places.all {
+        return false;
+    }
+    places.bits == 0
+}
+
 // Whether nothing of the block at a place is kept.
 fn keeps_none(s: &[u8], e: usize, w: u32, m: u8, places: Places) -> bool
     requires { ⌜ (m ≡ 2 ^ w) × (0 < w) × (w ≤ 7) × (length (now s) ≤ 64) ⌝ }
     ensures { λ r. ⌜ r ≡ isEmpty (sieved w m places (now (s .entry)) e) ⌝ }
 {
+    if has_none(places) {
+        return true;
+    }
     let extent = block_extent(s, e, w, m, places);
     if 1 < extent.count {
         return false;
@@ -151,7 +166,7 @@ fn keeps_none(s: &[u8], e: usize, w: u32, m: u8, places: Places) -> bool
 
 // Puts the minimal block of what is kept of the block at the spot.
 fn put_block(s: &[u8], w: u32, m: u8, places: Places, spot: Spot, out: &mut [u8]) -> Spot
-    requires { ⌜ (m ≡ 2 ^ w) × (6 ≤ w) × (w ≤ 7) × (length (now s) ≤ 64) × (spot .from ≤ length (now s)) × (spot .to + length (blockKept w m places (now s) (spot .from)) ≤ length (now out)) ⌝ }
+    requires { ⌜ (m ≡ 2 ^ w) × (6 ≤ w) × (w ≤ 7) × (length (now s) ≤ 64) × (spot .from < length (now s)) × (spot .to + length (blockKept w m places (now s) (spot .from)) ≤ length (now out)) ⌝ }
     ensures { λ r. ⌜ Puts (blockKept w m places (now (s .entry)) (spot .from)) (behind m (now (s .entry)) (spot .from)) (now (out .entry)) (spot .to) (now (out .exit)) r ⌝ }
 {
     let e = spot.from;
@@ -162,11 +177,11 @@ fn put_block(s: &[u8], w: u32, m: u8, places: Places, spot: Spot, out: &mut [u8]
     let mut names = first_names(places);
     let mut i = 0usize;
     while i < last {
-        out[to + i] = kept_bits(names, m, octet_or_zero(s, e + i));
+        out[to + i] = kept_bits(names, m, s[e + i]);
         names = names >> step;
         i += 1;
     }
-    out[to + last] = kept_bits(names, m, octet_or_zero(s, e + last)) + m;
+    out[to + last] = kept_bits(names, m, s[e + last]) + m;
     Spot {
         from: extent.end,
         to: to + last + 1,
@@ -175,7 +190,7 @@ fn put_block(s: &[u8], w: u32, m: u8, places: Places, spot: Spot, out: &mut [u8]
 
 // Puts the NPar(3) block at the spot, if the SPar(2) position it belongs to is kept; else passes it over.
 fn put_sub(s: &[u8], branch: Branch, t: u32, spot: Spot, out: &mut [u8]) -> Spot
-    requires { ⌜ (length (now s) ≤ 64) × (spot .from ≤ length (now s)) × (branch .base ≤ fieldBase 3) × (0 < t) × (t ≤ 511) × (spot .to + length (subKept (branch .keep) (branch .base) (branch .places) t (now s) (spot .from)) ≤ length (now out)) ⌝ }
+    requires { ⌜ (length (now s) ≤ 64) × (formAt 64 (now s) (spot .from) ≡ Fine) × (branch .base ≤ fieldBase 3) × (0 < t) × (t ≤ 511) × (spot .to + length (subKept (branch .keep) (branch .base) (branch .places) t (now s) (spot .from)) ≤ length (now out)) ⌝ }
     ensures { λ r. ⌜ Puts (subKept (branch .keep) (branch .base) (branch .places) t (now (s .entry)) (spot .from)) (behind 64 (now (s .entry)) (spot .from)) (now (out .entry)) (spot .to) (now (out .exit)) r ⌝ }
 {
     let keep = branch.keep;
@@ -193,7 +208,7 @@ fn put_sub(s: &[u8], branch: Branch, t: u32, spot: Spot, out: &mut [u8]) -> Spot
 
 // Puts the NPar(3) blocks of the SPar(2) positions that are set in one octet, above a number.
 fn put_subs_of(s: &[u8], branch: Branch, above: u32, octet: u8, start: Spot, out: &mut [u8]) -> Spot
-    requires { ⌜ (length (now s) ≤ 64) × (start .from ≤ length (now s)) × (branch .base ≤ fieldBase 3) × (above ≤ 448) × (start .to + length (subsKept (branch .keep) (branch .base) (branch .places) (setBits 6 above octet) (now s) (start .from)) ≤ length (now out)) ⌝ }
+    requires { ⌜ (length (now s) ≤ 64) × (start .from ≤ length (now s)) × (SubsFine (length (setBits 6 above octet)) (now s) (start .from)) × (branch .base ≤ fieldBase 3) × (above ≤ 448) × (start .to + length (subsKept (branch .keep) (branch .base) (branch .places) (setBits 6 above octet) (now s) (start .from)) ≤ length (now out)) ⌝ }
     ensures { λ r. ⌜ Puts (subsKept (branch .keep) (branch .base) (branch .places) (setBits 6 above octet) (now (s .entry)) (start .from)) (subsBehind (length (setBits 6 above octet)) (now (s .entry)) (start .from)) (now (out .entry)) (start .to) (now (out .exit)) r ⌝ }
 {
     let mut spot = start;
@@ -210,7 +225,7 @@ fn put_subs_of(s: &[u8], branch: Branch, above: u32, octet: u8, start: Spot, out
 
 // Puts the NPar(3) blocks, from the spot on, of the SPar(2) block at a place.
 fn put_subs(s: &[u8], branch: Branch, e: usize, start: Spot, out: &mut [u8]) -> Spot
-    requires { ⌜ (length (now s) ≤ 64) × (e ≤ length (now s)) × (start .from ≤ length (now s)) × (branch .base ≤ fieldBase 3) × (start .to + length (subsKept (branch .keep) (branch .base) (branch .places) (numbers 6 64 0 (now s) e) (now s) (start .from)) ≤ length (now out)) ⌝ }
+    requires { ⌜ (length (now s) ≤ 64) × (e ≤ length (now s)) × (start .from ≤ length (now s)) × (SubsFine (length (numbers 6 64 0 (now s) e)) (now s) (start .from)) × (branch .base ≤ fieldBase 3) × (start .to + length (subsKept (branch .keep) (branch .base) (branch .places) (numbers 6 64 0 (now s) e) (now s) (start .from)) ≤ length (now out)) ⌝ }
     ensures { λ r. ⌜ Puts (subsKept (branch .keep) (branch .base) (branch .places) (numbers 6 64 0 (now (s .entry)) e) (now (s .entry)) (start .from)) (subsBehind (length (numbers 6 64 0 (now (s .entry)) e)) (now (s .entry)) (start .from)) (now (out .entry)) (start .to) (now (out .exit)) r ⌝ }
 {
     let mut spot = start;
@@ -228,22 +243,21 @@ fn put_subs(s: &[u8], branch: Branch, e: usize, start: Spot, out: &mut [u8]) -> 
     spot
 }
 
-// Puts what is kept behind the NPar(2) of a Par(2) block: SPar(2), if any of it is kept, and its NPar(3) blocks.
+// Puts what is kept behind the NPar(2) of a Par(2) block, if bit 8 did not end it there: SPar(2), if any of it is kept, and its NPar(3)
+// blocks. Else passes it over.
 fn put_group(s: &[u8], keep: Keep, c: u32, spot: Spot, out: &mut [u8]) -> Spot
-    requires { ⌜ (length (now s) ≤ 64) × (spot .from ≤ length (now s)) × (c ≤ fieldBase 3) × (spot .to + length (groupKept keep c (now s) (spot .from)) ≤ length (now out)) ⌝ }
+    requires { ⌜ (length (now s) ≤ 64) × (0 < spot .from) × (spot .from ≤ length (now s)) × (groupForm (now s) (spot .from) ≡ Fine) × (c ≤ fieldBase 3) × (spot .to + length (groupKept keep c (now s) (spot .from)) ≤ length (now out)) ⌝ }
     ensures { λ r. ⌜ Puts (groupKept keep c (now (s .entry)) (spot .from)) (groupBehind (now (s .entry)) (spot .from)) (now (out .entry)) (spot .to) (now (out .exit)) r ⌝ }
 {
     let from = spot.from;
     let to = spot.to;
-    if bit8(s, from) {
+    if 128 <= s[from - 1] {
         return Spot { from, to };
     }
     let spars = spar_places(keep, c);
     if keeps_none(s, from, 6, 64, spars) {
-        return Spot {
-            from: group_behind(s, from),
-            to,
-        };
+        let end = top_behind(s, from);
+        return Spot { from: end, to };
     }
     let next = put_block(s, 6, 64, spars, spot, out);
     let branch = Branch {
@@ -254,9 +268,10 @@ fn put_group(s: &[u8], keep: Keep, c: u32, spot: Spot, out: &mut [u8]) -> Spot
     put_subs(s, branch, from, next, out)
 }
 
-// Puts what is kept of the Par(2) block at the spot, if the SPar(1) position it belongs to is kept; else passes it over whole.
+// Puts what is kept of the Par(2) block at the spot, if the SPar(1) position it belongs to is kept; else passes it over whole: it is
+// well-formed, so bit 8 stands in its last octet alone.
 fn put_par(s: &[u8], branch: Branch, q: u32, spot: Spot, out: &mut [u8]) -> Spot
-    requires { ⌜ (length (now s) ≤ 64) × (spot .from ≤ length (now s)) × (branch .base ≤ fieldBase 2) × (0 < q) × (q ≤ 511) × (spot .to + length (parKept (branch .keep) (branch .base) (branch .places) q (now s) (spot .from)) ≤ length (now out)) ⌝ }
+    requires { ⌜ (length (now s) ≤ 64) × (formAt 64 (now s) (spot .from) ≡ Fine) × (groupForm (now s) (behind 64 (now s) (spot .from)) ≡ Fine) × (branch .base ≤ fieldBase 2) × (0 < q) × (q ≤ 511) × (spot .to + length (parKept (branch .keep) (branch .base) (branch .places) q (now s) (spot .from)) ≤ length (now out)) ⌝ }
     ensures { λ r. ⌜ Puts (parKept (branch .keep) (branch .base) (branch .places) q (now (s .entry)) (spot .from)) (groupBehind (now (s .entry)) (behind 64 (now (s .entry)) (spot .from))) (now (out .entry)) (spot .to) (now (out .exit)) r ⌝ }
 {
     let keep = branch.keep;
@@ -266,26 +281,27 @@ fn put_par(s: &[u8], branch: Branch, q: u32, spot: Spot, out: &mut [u8]) -> Spot
         return put_whole(s, keep, branch.base + q * OF_S, spot, out);
     }
     Spot {
-        from: group_behind(s, block_behind(s, from)),
+        from: top_behind(s, from),
         to,
     }
 }
 
-// Puts what is kept of the Par(2) block of an SPar(1), at the spot.
+// Puts what is kept of the Par(2) block of an SPar(1), at the spot, with bit 8 in the last octet.
 fn put_whole(s: &[u8], keep: Keep, c: u32, spot: Spot, out: &mut [u8]) -> Spot
-    requires { ⌜ (length (now s) ≤ 64) × (spot .from ≤ length (now s)) × (c ≤ fieldBase 3) × (spot .to + length (wholePar keep c (now s) (spot .from)) ≤ length (now out)) ⌝ }
+    requires { ⌜ (length (now s) ≤ 64) × (formAt 64 (now s) (spot .from) ≡ Fine) × (groupForm (now s) (behind 64 (now s) (spot .from)) ≡ Fine) × (c ≤ fieldBase 3) × (spot .to + length (wholePar keep c (now s) (spot .from)) ≤ length (now out)) ⌝ }
     ensures { λ r. ⌜ Puts (wholePar keep c (now (s .entry)) (spot .from)) (groupBehind (now (s .entry)) (behind 64 (now (s .entry)) (spot .from))) (now (out .entry)) (spot .to) (now (out .exit)) r ⌝ }
 {
     let npars = npar_places(keep, c);
     let middle = put_block(s, 6, 64, npars, spot, out);
     let end = put_group(s, keep, c, middle, out);
-    mark_last(out, end.to);
+    let last = end.to - 1;
+    out[last] = out[last] % 128 + 128;
     end
 }
 
 // Puts the Par(2) blocks of the SPar(1) positions that are set in one octet, above a number.
 fn put_pars_of(s: &[u8], branch: Branch, above: u32, octet: u8, start: Spot, out: &mut [u8]) -> Spot
-    requires { ⌜ (length (now s) ≤ 64) × (start .from ≤ length (now s)) × (branch .base ≤ fieldBase 2) × (above ≤ 448) × (start .to + length (parsKept (branch .keep) (branch .base) (branch .places) (setBits 7 above octet) (now s) (start .from)) ≤ length (now out)) ⌝ }
+    requires { ⌜ (length (now s) ≤ 64) × (start .from ≤ length (now s)) × (parsForm (length (setBits 7 above octet)) (now s) (start .from) ≡ Fine) × (branch .base ≤ fieldBase 2) × (above ≤ 448) × (start .to + length (parsKept (branch .keep) (branch .base) (branch .places) (setBits 7 above octet) (now s) (start .from)) ≤ length (now out)) ⌝ }
     ensures { λ r. ⌜ Puts (parsKept (branch .keep) (branch .base) (branch .places) (setBits 7 above octet) (now (s .entry)) (start .from)) (parsBehind (length (setBits 7 above octet)) (now (s .entry)) (start .from)) (now (out .entry)) (start .to) (now (out .exit)) r ⌝ }
 {
     let mut spot = start;
@@ -302,7 +318,7 @@ fn put_pars_of(s: &[u8], branch: Branch, above: u32, octet: u8, start: Spot, out
 
 // Puts the Par(2) blocks, from the spot on, of the SPar(1) block at a place.
 fn put_pars(s: &[u8], branch: Branch, e: usize, start: Spot, out: &mut [u8]) -> Spot
-    requires { ⌜ (length (now s) ≤ 64) × (e ≤ length (now s)) × (start .from ≤ length (now s)) × (branch .base ≤ fieldBase 2) × (start .to + length (parsKept (branch .keep) (branch .base) (branch .places) (numbers 7 128 0 (now s) e) (now s) (start .from)) ≤ length (now out)) ⌝ }
+    requires { ⌜ (length (now s) ≤ 64) × (e ≤ length (now s)) × (start .from ≤ length (now s)) × (parsForm (length (numbers 7 128 0 (now s) e)) (now s) (start .from) ≡ Fine) × (branch .base ≤ fieldBase 2) × (start .to + length (parsKept (branch .keep) (branch .base) (branch .places) (numbers 7 128 0 (now s) e) (now s) (start .from)) ≤ length (now out)) ⌝ }
     ensures { λ r. ⌜ Puts (parsKept (branch .keep) (branch .base) (branch .places) (numbers 7 128 0 (now (s .entry)) e) (now (s .entry)) (start .from)) (parsBehind (length (numbers 7 128 0 (now (s .entry)) e)) (now (s .entry)) (start .from)) (now (out .entry)) (start .to) (now (out .exit)) r ⌝ }
 {
     let mut spot = start;
@@ -322,7 +338,7 @@ fn put_pars(s: &[u8], branch: Branch, e: usize, start: Spot, out: &mut [u8]) -> 
 
 // Puts what is kept of the field at a place.
 fn put_field(s: &[u8], at: usize, field: Field, keep: Keep, out: &mut [u8], to: usize) -> Spot
-    requires { ⌜ (length (now s) ≤ 64) × (at ≤ length (now s)) × (to + length (fieldKept keep (baseOf field) (now s) at) ≤ length (now out)) ⌝ }
+    requires { ⌜ (length (now s) ≤ 64) × (fieldForm (now s) at ≡ Fine) × (to + length (fieldKept keep (baseOf field) (now s) at) ≤ length (now out)) ⌝ }
     ensures { λ r. ⌜ Puts (fieldKept keep (baseOf field) (now (s .entry)) at) (fieldBehind (now (s .entry)) at) (now (out .entry)) to (now (out .exit)) r ⌝ }
 {
     let base = base_of(field);

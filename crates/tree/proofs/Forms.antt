@@ -74,7 +74,7 @@ unfolding blockForm
 form-out m i l h = rw (drop-of-length-le l h)
 
 -- the end of a block by its first octet
-behind-at : (m i : ℕ) (l : List ℕ) → i < length l → behind m l i ≡ pick (ltb (getD l i 0) m) (behind m l (i + 1)) (i + 1)
+pub behind-at : (m i : ℕ) (l : List ℕ) → i < length l → behind m l i ≡ pick (ltb (getD l i 0) m) (behind m l (i + 1)) (i + 1)
 unfolding blockEnd
 behind-at m i l h = rw (drop-cons l i 0, add-one)
 
@@ -272,12 +272,13 @@ subs-end (suc k) l e h = absurd (omega arith)
 
 -- behind a well-formed block follow the others
 pub subs-go : (k : ℕ) (l : List ℕ) (e n : ℕ) → 0 < k → ended l e ≡ false → formAt 64 l e ≡ Fine → n ≡ behind 64 l e
-    → (0 < n) × (subsForm (k - 1) l n ≡ subsForm k l e) × (subsBehind (k - 1) l n ≡ subsBehind k l e)
+    → (0 < n) × (n ≤ length l) × (subsForm (k - 1) l n ≡ subsForm k l e) × (subsBehind (k - 1) l n ≡ subsBehind k l e)
 unfolding subsForm
 subs-go zero l e n h b f p = absurd (omega arith)
 subs-go (suc k) l e n h b f p =
     let z : suc k - 1 ≡ k = omega arith in
-    (omega (arith, fine-behind 64 l e f), rw (z, p, b, f), subs-next (suc k) l e n h p)
+    let x = fine-behind 64 l e f in
+    (omega (arith, x), omega (arith, x), rw (z, p, b, f), subs-next (suc k) l e n h p)
 
 -- bit 8 stands behind the last block
 pub subs-done : (k : ℕ) (l : List ℕ) (e : ℕ) → k ≤ 0 → ended l e ≡ true

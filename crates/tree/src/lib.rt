@@ -146,15 +146,23 @@ pub fn is_fine(form: Form) -> bool
     }
 }
 
+// Bit 8 of the octet before a place within the octets.
+fn is_ended(s: &[u8], e: usize) -> bool
+    requires { ⌜ (0 < e) × (e ≤ length (now s)) ⌝ }
+    ensures { λ r. ⌜ TellsBit8 (now (s .entry)) e r ⌝ }
+{
+    128 <= s[e - 1]
+}
+
 // NPar(3) blocks, count of them, from a place on: bit 8 stands in the very last octet and in no other.
 fn subs_at(s: &[u8], count: usize, start: usize) -> Reach
-    requires { ⌜ 0 < start ⌝ }
+    requires { ⌜ (0 < start) × (start ≤ length (now s)) ⌝ }
     ensures { λ r. ⌜ Reaches (subsForm count (now (s .entry)) start) (subsBehind count (now (s .entry)) start) r ⌝ }
 {
     let mut left = count;
     let mut e = start;
     while 0 < left {
-        if bit8(s, e) {
+        if is_ended(s, e) {
             return Reach {
                 form: Form::Wrong(e - 1),
                 at: e,
@@ -168,7 +176,7 @@ fn subs_at(s: &[u8], count: usize, start: usize) -> Reach
         e = block.at;
         left -= 1;
     }
-    if bit8(s, e) {
+    if is_ended(s, e) {
         return Reach {
             form: Form::Fine,
             at: e,
@@ -182,10 +190,10 @@ fn subs_at(s: &[u8], count: usize, start: usize) -> Reach
 
 // What stands in a Par(2) block behind its NPar(2), which ends before a place.
 fn group_at(s: &[u8], e: usize) -> Reach
-    requires { ⌜ (0 < e) × (length (now s) ≤ 64) ⌝ }
+    requires { ⌜ (0 < e) × (e ≤ length (now s)) × (length (now s) ≤ 64) ⌝ }
     ensures { λ r. ⌜ Reaches (groupForm (now (s .entry)) e) (groupBehind (now (s .entry)) e) r ⌝ }
 {
-    if bit8(s, e) {
+    if is_ended(s, e) {
         return Reach {
             form: Form::Fine,
             at: e,
@@ -300,12 +308,20 @@ pub fn has_spar(s: &[u8], at: usize) -> bool
     0 < ones_in(s, 128, 7, block.at)
 }
 
-// The place behind the block at a place, at level 1.
+// The place behind the block at a place, at level 1. The octet at hand is asked last, which leaves the back end the shortest loop.
 pub fn top_behind(s: &[u8], e: usize) -> usize
     ensures { λ r. ⌜ TellsTopBehind (now (s .entry)) e r ⌝ }
 {
-    let block = block_at(s, 128, e);
-    block.at
+    let mut octet = 0u8;
+    let mut i = e;
+    while octet < 128 {
+        if s.len() <= i {
+            return i;
+        }
+        octet = s[i];
+        i += 1;
+    }
+    i
 }
 
 // The place behind the block at a place, below level 1.

@@ -1,15 +1,15 @@
 -- `strike::put_block` meets its contract. The loop's invariant is `Filling`: the first i octets of the minimal block are put, and i is not behind the last.
 -- Assumes nothing.
 use Prim.Native.Nat.{_+_, _-_, _≤_, _<_}
-use mathlib.Core.Path.{_≡_}
+use mathlib.Core.Path.{_≡_, refl}
 use native.Mathlib.Omega.{arith}
 use borrow.Author.Needs.{needs}
-use lib.ListN.{length, length-set}
+use lib.ListN.{length, getD, length-set}
 use lib.Pow.{pow-mono, pow-pos}
 use Rattle.octets.specs.Places.{pick}
 use Rattle.names.specs.declared.Places.{Places}
 use Rattle.strike.specs.Inner.{namesAt, blockKept}
-use Rattle.strike.proofs.Extents.{Framed, kept-few}
+use Rattle.strike.proofs.Extents.{Framed, kept-few, kept-within}
 use Rattle.strike.proofs.Filling.{Filling, filling-none, filling-low, filling-room, filling-below, filling-more, filling-last}
 use Rattle.strike.proofs.put_block.Statement.{statement}
 use Rattle.strike.proofs.put_block.Tie as tie
@@ -39,6 +39,10 @@ low l = let b = begun l in filling-low (framed b) (b .args .places) (b .args .sp
 room : (l : tie.At-loop Inv-loop μ-loop) → begun l .args .spot .to + l .loop .i < length (l .loop .out)
 room l = let b = begun l in filling-room (framed b) (b .args .places) (b .args .spot .from) (b .args .spot .to) (filling l) (b .pre .5)
 
+-- nor does it leave the octets
+reads : (l : tie.At-loop Inv-loop μ-loop) → begun l .args .spot .from + l .loop .i < length (begun l .args .s .now)
+reads l = let b = begun l in omega (arith, filling l .within, kept-within (framed b) (b .args .places) (b .args .spot .from) (b .pre .4))
+
 -- the loop ends at the last octet
 at-last : (c : tie.After-loop Inv-loop μ-loop) → c .before .before .before .before .before .block-extent .result .count - 1 ≡ c .before .loop .i
 at-last c = omega (arith, c .loop-test .left, filling (c .before) .within, c .before .before .before .before .before .block-extent .ensures .0)
@@ -58,8 +62,11 @@ loop-holds c =
     let b = c .before .before .before .before .before .before in
     λ places h k n. filling-none (framed b) places (b .args .spot .from) (b .args .spot .to) (b .args .out .now) h
 
-add-octet-or-zero : tie.Need-add-octet-or-zero Inv-loop μ-loop
-add-octet-or-zero c = omega (arith, low (c .before))
+add-kept-bits : tie.Need-add-kept-bits Inv-loop μ-loop
+add-kept-bits c = omega (arith, low (c .before))
+
+shared-slice-read-kept-bits : tie.Need-shared-slice-read-kept-bits Inv-loop μ-loop
+shared-slice-read-kept-bits c = reads (c .before .before)
 
 kept-bits-requires : tie.Need-kept-bits-requires Inv-loop μ-loop
 kept-bits-requires c κs = let b = begun (c .before .before) in omega (arith, b .pre .0, pow-pos (b .args .w))
@@ -84,10 +91,13 @@ loop-again c =
     let l = c .before .before .before in
     let b = begun l in
     λ places h k n. filling-more (framed b) places (b .args .spot .from) (b .args .spot .to) (l .loop .inv places h k n) (c .kept-bits .result)
-    (omega (arith, c .before .before .loop-test .taken, n)) (c .kept-bits .ensures) (c .before .octet-or-zero .ensures) k
+    (omega (arith, c .before .before .loop-test .taken, n)) (c .kept-bits .ensures) refl k
 
-add-octet-or-zero-2 : tie.Need-add-octet-or-zero-2 Inv-loop μ-loop
-add-octet-or-zero-2 c = omega (arith, low (c .before), at-last c)
+add-kept-bits-2 : tie.Need-add-kept-bits-2 Inv-loop μ-loop
+add-kept-bits-2 c = omega (arith, low (c .before), at-last c)
+
+shared-slice-read-kept-bits-2 : tie.Need-shared-slice-read-kept-bits-2 Inv-loop μ-loop
+shared-slice-read-kept-bits-2 c = omega (arith, reads (c .before .before), at-last (c .before))
 
 kept-bits-requires-2 : tie.Need-kept-bits-requires-2 Inv-loop μ-loop
 kept-bits-requires-2 c κs = let b = begun (c .before .before) in omega (arith, b .pre .0, pow-pos (b .args .w))
@@ -96,7 +106,7 @@ add-out-2 : tie.Need-add-out-2 Inv-loop μ-loop
 add-out-2 c =
     let l = c .before .before .before in
     let b = begun l in
-    omega (arith, c .kept-bits2 .ensures, filling-below (framed b) (b .args .places) (b .args .spot .from) (b .args .spot .to) (filling l) (c .before .octet-or-zero2 .result), b .pre .0, pow-mono {i = b .args .w} {j = 7} (b .pre .2))
+    omega (arith, c .kept-bits2 .ensures, filling-below (framed b) (b .args .places) (b .args .spot .from) (b .args .spot .to) (filling l) (getD (b .args .s .now) (b .args .spot .from + (l .before .before .before .before .block-extent .result .count - 1)) 0), b .pre .0, pow-mono {i = b .args .w} {j = 7} (b .pre .2))
 
 add-out-3 : tie.Need-add-out-3 Inv-loop μ-loop
 add-out-3 c = omega (arith, room (c .before .before .before), at-last (c .before .before))
@@ -107,8 +117,8 @@ slice-write-out-2 c = omega (arith, room (c .before .before .before), at-last (c
 add-t22 : tie.Need-add-t22 Inv-loop μ-loop
 add-t22 c = omega (arith, room (c .before .before .before), at-last (c .before .before))
 
-add-t24 : tie.Need-add-t24 Inv-loop μ-loop
-add-t24 c = omega (arith, room (c .before .before .before), at-last (c .before .before))
+add-t26 : tie.Need-add-t26 Inv-loop μ-loop
+add-t26 c = omega (arith, room (c .before .before .before), at-last (c .before .before))
 
 same-length : tie.Need-same-length Inv-loop μ-loop
 same-length c = simp length-set (filling (c .before .before .before) .lays .room)
@@ -125,7 +135,7 @@ returns c =
       at = omega arith;
       out =
           filling-last (framed b) (b .args .places) (b .args .spot .from) (b .args .spot .to) (filling l) (c .kept-bits2 .result) (x .result .count - 1) whole (at-last (c .before .before))
-          (c .kept-bits2 .ensures) (c .before .octet-or-zero2 .ensures);
+          (c .kept-bits2 .ensures) refl;
     }
 
 pub put-block-spec : {M : Type 1} → statement M
@@ -139,8 +149,8 @@ put-block-spec =
     (λ c κs. search needs)
     (λ c κs. search needs)
     loop-holds
-    add-octet-or-zero
-    (λ c κs. search needs)
+    add-kept-bits
+    shared-slice-read-kept-bits
     kept-bits-requires
     add-out
     slice-write-out
@@ -148,13 +158,13 @@ put-block-spec =
     add-i
     loop-less
     loop-again
-    add-octet-or-zero-2
-    (λ c κs. search needs)
+    add-kept-bits-2
+    shared-slice-read-kept-bits-2
     kept-bits-requires-2
     add-out-2
     add-out-3
     slice-write-out-2
     add-t22
-    add-t24
+    add-t26
     same-length
     returns)

@@ -2,21 +2,24 @@
 -- Assumes nothing.
 use Prim.Native.Nat.{_-_}
 use native.Mathlib.Omega.{arith}
+use mathlib.Core.Path.{_≡_}
 use lib.ListN.{length}
 use Rattle.tree.specs.Codes.{parsBehind}
+use Rattle.tree.specs.Form.{parsForm}
+use Rattle.tree.specs.declared.Form.the-variants.{Fine}
 use Rattle.strike.specs.Inner.{parsKept}
-use Rattle.strike.proofs.Going.{pars-stepped, OctetsGoing, octets-none, octets-room, octets-turn, octets-last, octets-end}
+use Rattle.strike.proofs.Going.{pars-stepped, OctetsGoing, octets-none, octets-room, octets-fine, octets-turn, octets-last, octets-end}
 use Rattle.strike.proofs.put_pars.Statement.{statement}
 use Rattle.strike.proofs.put_pars.Tie as tie
 
 abbrev Inv-loop : tie.InvT-loop
-Inv-loop s branch e out₀ spot₀ above₀ i₀ out spot above i = OctetsGoing (λ qs f. parsKept (branch .keep) (branch .base) (branch .places) qs s f) (λ n f. parsBehind n s f) 7 128 s e spot₀ out₀ out spot above i
+Inv-loop s branch e out₀ spot₀ above₀ i₀ out spot above i = OctetsGoing (λ qs f. parsKept (branch .keep) (branch .base) (branch .places) qs s f) (λ n f. parsBehind n s f) (λ n f. parsForm n s f ≡ Fine) 7 128 s e spot₀ out₀ out spot above i
 
 abbrev μ-loop : tie.MeasureT-loop
 μ-loop s branch e out₀ spot₀ above₀ i₀ out spot above i = length s - i
 
 loop-holds : tie.Need-loop-holds Inv-loop μ-loop
-loop-holds c = let s = c .before .before in let a = s .args in octets-none (pars-stepped (a .branch .keep) (a .branch .base) (a .branch .places) (a .s .now)) (a .out .now) (a .start) (s .pre .2)
+loop-holds c = let s = c .before .before in let a = s .args in octets-none (pars-stepped (a .branch .keep) (a .branch .base) (a .branch .places) (a .s .now)) (a .out .now) (a .start) (s .pre .2) (s .pre .3)
 
 shared-slice-read-octet : tie.Need-shared-slice-read-octet Inv-loop μ-loop
 shared-slice-read-octet c = omega arith
@@ -24,7 +27,8 @@ shared-slice-read-octet c = omega arith
 put-pars-of-requires : tie.Need-put-pars-of-requires Inv-loop μ-loop
 put-pars-of-requires c κs = let t = c .before .before in let l = t .before in let s = l .before .before .before in let a = s .args in
     let y = l .loop .inv in
-    (s .pre .0, y .going .within, s .pre .3, omega (arith, y .reach, s .pre .0, t .loop-test .taken), octets-room (pars-stepped (a .branch .keep) (a .branch .base) (a .branch .places) (a .s .now)) y (t .loop-test .taken) (s .pre .4))
+    let x = pars-stepped (a .branch .keep) (a .branch .base) (a .branch .places) (a .s .now) in
+    (s .pre .0, y .going .within, octets-fine x y (t .loop-test .taken), s .pre .4, omega (arith, y .reach, s .pre .0, t .loop-test .taken), octets-room x y (t .loop-test .taken) (s .pre .5))
 
 same-length : tie.Need-same-length Inv-loop μ-loop
 same-length c = let p = c .before .before .before in omega (arith, p .put-pars-of .kept)

@@ -4,19 +4,19 @@ use Prim.Native.Nat.{_-_}
 use native.Mathlib.Omega.{arith}
 use lib.ListN.{length}
 use Rattle.tree.specs.Codes.{subsBehind}
-use Rattle.strike.specs.Inner.{subsKept}
-use Rattle.strike.proofs.Going.{subs-stepped, OctetsGoing, octets-none, octets-room, octets-turn, octets-last, octets-end}
+use Rattle.strike.specs.Inner.{SubsFine, subsKept}
+use Rattle.strike.proofs.Going.{subs-stepped, OctetsGoing, octets-none, octets-room, octets-fine, octets-turn, octets-last, octets-end}
 use Rattle.strike.proofs.put_subs.Statement.{statement}
 use Rattle.strike.proofs.put_subs.Tie as tie
 
 abbrev Inv-loop : tie.InvT-loop
-Inv-loop s branch e out₀ spot₀ above₀ i₀ out spot above i = OctetsGoing (λ qs f. subsKept (branch .keep) (branch .base) (branch .places) qs s f) (λ n f. subsBehind n s f) 6 64 s e spot₀ out₀ out spot above i
+Inv-loop s branch e out₀ spot₀ above₀ i₀ out spot above i = OctetsGoing (λ qs f. subsKept (branch .keep) (branch .base) (branch .places) qs s f) (λ n f. subsBehind n s f) (λ n f. SubsFine n s f) 6 64 s e spot₀ out₀ out spot above i
 
 abbrev μ-loop : tie.MeasureT-loop
 μ-loop s branch e out₀ spot₀ above₀ i₀ out spot above i = length s - i
 
 loop-holds : tie.Need-loop-holds Inv-loop μ-loop
-loop-holds c = let s = c .before .before in let a = s .args in octets-none (subs-stepped (a .branch .keep) (a .branch .base) (a .branch .places) (a .s .now)) (a .out .now) (a .start) (s .pre .2)
+loop-holds c = let s = c .before .before in let a = s .args in octets-none (subs-stepped (a .branch .keep) (a .branch .base) (a .branch .places) (a .s .now)) (a .out .now) (a .start) (s .pre .2) (s .pre .3)
 
 shared-slice-read-octet : tie.Need-shared-slice-read-octet Inv-loop μ-loop
 shared-slice-read-octet c = omega arith
@@ -24,7 +24,8 @@ shared-slice-read-octet c = omega arith
 put-subs-of-requires : tie.Need-put-subs-of-requires Inv-loop μ-loop
 put-subs-of-requires c κs = let t = c .before .before in let l = t .before in let s = l .before .before .before in let a = s .args in
     let y = l .loop .inv in
-    (s .pre .0, y .going .within, s .pre .3, omega (arith, y .reach, s .pre .0, t .loop-test .taken), octets-room (subs-stepped (a .branch .keep) (a .branch .base) (a .branch .places) (a .s .now)) y (t .loop-test .taken) (s .pre .4))
+    let x = subs-stepped (a .branch .keep) (a .branch .base) (a .branch .places) (a .s .now) in
+    (s .pre .0, y .going .within, octets-fine x y (t .loop-test .taken), s .pre .4, omega (arith, y .reach, s .pre .0, t .loop-test .taken), octets-room x y (t .loop-test .taken) (s .pre .5))
 
 same-length : tie.Need-same-length Inv-loop μ-loop
 same-length c = let p = c .before .before .before in omega (arith, p .put-subs-of .kept)

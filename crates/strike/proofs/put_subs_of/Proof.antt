@@ -3,19 +3,19 @@
 use native.Mathlib.Omega.{arith}
 use lib.ListN.{length}
 use Rattle.tree.specs.Codes.{subsBehind}
-use Rattle.strike.specs.Inner.{subsKept}
-use Rattle.strike.proofs.Going.{subs-stepped, BitsGoing, bits-start, bits-end, bits-reach, bits-less, bits-room, bits-turn}
+use Rattle.strike.specs.Inner.{SubsFine, subsKept}
+use Rattle.strike.proofs.Going.{subs-stepped, BitsGoing, bits-start, bits-end, bits-reach, bits-less, bits-room, bits-fine, bits-turn}
 use Rattle.strike.proofs.put_subs_of.Statement.{statement}
 use Rattle.strike.proofs.put_subs_of.Tie as tie
 
 abbrev Inv-loop : tie.InvT-loop
-Inv-loop s branch above octet out₀ spot₀ bits₀ t₀ out spot bits t = BitsGoing (λ qs e. subsKept (branch .keep) (branch .base) (branch .places) qs s e) (λ n e. subsBehind n s e) (length s) 6 above octet spot₀ out₀ out spot bits t
+Inv-loop s branch above octet out₀ spot₀ bits₀ t₀ out spot bits t = BitsGoing (λ qs e. subsKept (branch .keep) (branch .base) (branch .places) qs s e) (λ n e. subsBehind n s e) (λ n e. SubsFine n s e) (length s) 6 above octet spot₀ out₀ out spot bits t
 
 abbrev μ-loop : tie.MeasureT-loop
 μ-loop s branch above octet out₀ spot₀ bits₀ t₀ out spot bits t = bits
 
 loop-holds : tie.Need-loop-holds Inv-loop μ-loop
-loop-holds c = let s = c .before .before in let a = s .args in bits-start (subs-stepped (a .branch .keep) (a .branch .base) (a .branch .places) (a .s .now)) (a .out .now) (a .start) (s .pre .1)
+loop-holds c = let s = c .before .before in let a = s .args in bits-start (subs-stepped (a .branch .keep) (a .branch .base) (a .branch .places) (a .s .now)) (a .out .now) (a .start) (s .pre .1) (s .pre .2)
 
 cast-bits : tie.Need-cast-bits Inv-loop μ-loop
 cast-bits c = let a = c .before .before .before .before .args in
@@ -31,12 +31,12 @@ add-t c = let a = c .before .before .before .before .args in
 
 add-t-2 : tie.Need-add-t-2 Inv-loop μ-loop
 add-t-2 c = let s = c .before .before .before .before in let a = s .args in
-    omega (arith, s .pre .3, bits-reach (subs-stepped (a .branch .keep) (a .branch .base) (a .branch .places) (a .s .now)) (c .before .loop .inv) (omega arith) (c .loop-test .taken))
+    omega (arith, s .pre .4, bits-reach (subs-stepped (a .branch .keep) (a .branch .base) (a .branch .places) (a .s .now)) (c .before .loop .inv) (omega arith) (c .loop-test .taken))
 
 put-sub-requires : tie.Need-put-sub-requires Inv-loop μ-loop
 put-sub-requires c κs = let t = c .before in let s = t .before .before .before .before in let a = s .args in let x = subs-stepped (a .branch .keep) (a .branch .base) (a .branch .places) (a .s .now) in
     let y = t .before .loop .inv in let z = t .loop-test .taken in
-    (s .pre .0, y .going .within, s .pre .2, omega arith, omega (arith, bits-reach x y (omega arith) z, s .pre .3), bits-room x y (omega arith) z (s .pre .4))
+    (s .pre .0, bits-fine x y (omega arith) z, s .pre .3, omega arith, omega (arith, bits-reach x y (omega arith) z, s .pre .4), bits-room x y (omega arith) z (s .pre .5))
 
 loop-less : tie.Need-loop-less Inv-loop μ-loop
 loop-less c = let t = c .before .before .before .before in let a = t .before .before .before .before .args in

@@ -15,22 +15,24 @@ two-fine : (c : tie.Else2) → formAt 64 (c .before .before .before .before .bef
 two-fine c = told-fine (c .before .before .block-at .ensures .0) (sym (c .before .is-fine .ensures) ∙ not-false _ (c .if2 .left))
 
 returns : tie.Need-returns
-returns c = group-done _ (c .before .before .before .args .e) (sym (c .before .bit8 .ensures) ∙ c .if1 .taken)
+returns c = group-done _ (c .before .before .before .args .e) (sym (c .before .is-ended .ensures) ∙ c .if1 .taken)
 
 returns-2 : tie.Need-returns-2
 returns-2 c =
-    group-bad _ (c .before .before .before .before .before .before .args .e) _ (sym (c .before .before .before .before .bit8 .ensures) ∙ c .before .before .before .if1 .left)
+    group-bad _ (c .before .before .before .before .before .before .args .e) _ (sym (c .before .before .before .before .is-ended .ensures) ∙ c .before .before .before .if1 .left)
     (c .before .before .block-at .ensures .0) (sym (c .before .is-fine .ensures) ∙ not-true _ (c .if2 .taken))
 
 subs-at-requires : tie.Need-subs-at-requires
 subs-at-requires c κs =
     let a = c .before .before .before .before .before .before .before .args in
-    omega (arith, c .before .before .before .block-at .ensures .1, fine-behind 64 (a .s .now) (a .e) (two-fine (c .before)))
+    let x = fine-behind 64 (a .s .now) (a .e) (two-fine (c .before)) in
+    let y = c .before .before .before .block-at .ensures .1 in
+    (omega (arith, y, x), omega (arith, y, x))
 
 returns-3 : tie.Need-returns-3
 returns-3 c =
     let b = c .before .before .before .before in
-    group-go _ (b .before .before .before .before .args .e) _ _ _ (sym (b .before .before .bit8 .ensures) ∙ b .before .if1 .left)
+    group-go _ (b .before .before .before .before .args .e) _ _ _ (sym (b .before .before .is-ended .ensures) ∙ b .before .if1 .left)
     (two-fine (c .before .before)) (c .before .ones-in .ensures .0) (b .block-at .ensures .1) (c .subs-at .ensures)
 
 pub group-at-spec : {M : Type 1} → statement M

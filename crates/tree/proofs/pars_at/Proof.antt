@@ -35,7 +35,9 @@ group-at-requires : tie.Need-group-at-requires Inv-loop μ-loop
 group-at-requires c κs =
     let L = c .before .before .before .before .loop in
     let s = c .before .before .before .before .before .before .args .s .now in
-    (omega (arith, c .before .before .block-at .ensures .1, fine-behind 64 s (L .e) (two-fine c)), c .before .before .before .before .before .before .pre)
+    let x = fine-behind 64 s (L .e) (two-fine c) in
+    let y = c .before .before .block-at .ensures .1 in
+    (omega (arith, y, x), omega (arith, y, x), c .before .before .before .before .before .before .pre)
 
 returns-2 : tie.Need-returns-2 Inv-loop μ-loop
 returns-2 c =
