@@ -8,7 +8,7 @@ use native.Mathlib.Numerals.{add-one}
 use native.Mathlib.Omega.{arith}
 use borrow.Author.Tests.{lt-ltb, le-ltb}
 use lib.ListN.{length, getD, take, drop}
-use lib.Seq.{length-take-le, take-take, drop-cons, getD-take}
+use lib.Seq.{length-take-le, take-all, take-take, drop-cons, getD-take}
 use Rattle.octets.specs.Bits.{bits, number, AreOctets}
 use Rattle.octets.specs.Lay.{put}
 use Rattle.octets.proofs.Laws.{length-bits, bits-take, bits-drop}
@@ -17,6 +17,7 @@ use Rattle.octets.proofs.Window.{number-cons}
 use Rattle.fcs.specs.Division.{fcs}
 use Rattle.fcs.proofs.Registers.{fcs-octets}
 use Rattle.frame.specs.Reader.{Reading, refused, information, same, ahead, check, checked, readTold, readReply, readLeaves, Reads}
+use Rattle.frame.specs.Content.{Stands}
 use Rattle.frame.specs.declared.FrameRead.{FrameRead}
 use Rattle.frame.specs.declared.FrameRead.the-variants.{Octets}
 use Rattle.frame.proofs.Sights.{drop-take}
@@ -61,26 +62,27 @@ same-not p q n = go (same p q) refl
     go true e = absurd (n (same-eq p q e))
     go false e = e
 
--- t holds the content's bits, of which there are size
-module _ (t : List ℕ) (size : ℕ) (long : length t ≡ 88) (most : size ≤ 704) where
-  is-size : length (take size (bits t)) ≡ size
-  is-size = length-take-le size (bits t) (omega (arith, length-bits t))
-
-  pub checked-3 : (size % 8 ≡ 0 → ⊥) → checked (take size (bits t)) ≡ refused 3
+-- the content's bits are cs, of which there are size, and they stand in t where there is room for them
+module _ (cs : List Bool) (size : ℕ) (long : length cs ≡ size) where
+  pub checked-3 : (size % 8 ≡ 0 → ⊥) → checked cs ≡ refused 3
   unfolding checked
-  checked-3 h = rw (is-size, lt-ltb 0 (size % 8) (omega arith))
+  checked-3 h = rw (long, lt-ltb 0 (size % 8) (omega arith))
 
-  pub checked-4 : size % 8 ≡ 0 → size / 8 < 3 → checked (take size (bits t)) ≡ refused 4
+  pub checked-4 : size % 8 ≡ 0 → size / 8 < 3 → checked cs ≡ refused 4
   unfolding checked
-  checked-4 h l = rw (is-size, le-ltb 0 (size % 8) (omega arith), lt-ltb (size / 8) 3 l)
+  checked-4 h l = rw (long, le-ltb 0 (size % 8) (omega arith), lt-ltb (size / 8) 3 l)
 
-  pub checked-5 : size % 8 ≡ 0 → 66 < size / 8 → checked (take size (bits t)) ≡ refused 5
+  pub checked-5 : size % 8 ≡ 0 → 66 < size / 8 → checked cs ≡ refused 5
   unfolding checked
-  checked-5 h u = rw (is-size, le-ltb 0 (size % 8) (omega arith), le-ltb (size / 8) 3 (omega arith), lt-ltb 66 (size / 8) u)
+  checked-5 h u = rw (long, le-ltb 0 (size % 8) (omega arith), le-ltb (size / 8) 3 (omega arith), lt-ltb 66 (size / 8) u)
 
+module _ (t : List ℕ) (size : ℕ) (room : length t ≡ 66) where
   -- the FCS of the first n octets is the number f, and the two octets behind them are x and y
   module _ (n x y f : ℕ) (h : size % 8 ≡ 0) (hn : n + 2 ≡ size / 8) (few : 3 ≤ size / 8) (many : size / 8 ≤ 66)
       (ox : AreOctets t) (ex : x ≡ getD t n 0) (ey : y ≡ getD t (n + 1) 0) (ef : f ≡ number (fcs (bits (take n t)))) where
+    is-size : length (take size (bits t)) ≡ size
+    is-size = length-take-le size (bits t) (omega (arith, length-bits t))
+
     start : size - 16 ≡ n * 8
     start = omega arith
 
@@ -109,9 +111,9 @@ module _ (t : List ℕ) (size : ℕ) (long : length t ≡ 88) (most : size ≤ 7
     unfolding bits number
     check-number = omega (arith, number-cons x (y ∷ []) x-octet, number-cons y [] y-octet)
 
-    pub checked-6 : (f ≡ x + y * 256 → ⊥) → checked (take size (bits t)) ≡ refused 6
+    wrong : (f ≡ x + y * 256 → ⊥) → checked (take size (bits t)) ≡ refused 6
     unfolding checked
-    checked-6 q =
+    wrong q =
         rw (
           is-check,
           is-ahead,
@@ -134,9 +136,9 @@ module _ (t : List ℕ) (size : ℕ) (long : length t ≡ 88) (most : size ≤ 7
         let b : y ≡ F / 256 = omega (arith, x-octet) in
         ap (λ (m : ℕ). bits (m ∷ y ∷ [])) a ∙ ap (λ (m : ℕ). bits (F % 256 ∷ m ∷ [])) b ∙ fcs-octets (take n t)
 
-    pub checked-ok : f ≡ x + y * 256 → checked (take size (bits t)) ≡ information (take n t)
+    right : f ≡ x + y * 256 → checked (take size (bits t)) ≡ information (take n t)
     unfolding checked
-    checked-ok q =
+    right q =
         rw (
           is-check,
           is-ahead,
@@ -148,3 +150,13 @@ module _ (t : List ℕ) (size : ℕ) (long : length t ≡ 88) (most : size ≤ 7
           same-refl (fcs (bits (take n t))),
         )
         (ap information (packed-bits (take n t) front-octets))
+
+    module _ (cs : List Bool) (long : length cs ≡ size) (stands : Stands size cs t) where
+      is-content : cs ≡ take size (bits t)
+      is-content = sym (stands size (omega arith) (omega arith) ∙ take-all size cs (omega arith))
+
+      pub checked-6 : (f ≡ x + y * 256 → ⊥) → checked cs ≡ refused 6
+      checked-6 q = ap checked is-content ∙ wrong q
+
+      pub checked-ok : f ≡ x + y * 256 → checked cs ≡ information (take n t)
+      checked-ok q = ap checked is-content ∙ right q

@@ -6,14 +6,12 @@ use mathlib.Core.Bool.{Bool}
 use mathlib.Core.List.{List, [], _∷_}
 use native.Mathlib.Omega.{arith}
 use borrow.Author.Tests.{le-leb, lt-leb}
-use lib.ListN.{length, take, drop, length-drop}
+use lib.ListN.{length, drop, length-drop}
 use lib.Seq.{drop-drop, drop-length}
-use Rattle.octets.specs.Bits.{bits}
-use Rattle.frame.specs.Limits.{mostBits}
 use Rattle.frame.specs.Stuffing.{Cutting, uncut, cutInto, contentFrom}
 use Rattle.frame.specs.Frame.{flagsAt, closed, framed}
 use Rattle.frame.specs.Reader.{refused, checked, alone}
-use Rattle.frame.specs.Inner.{foundCutting, Finds}
+use Rattle.frame.specs.Content.{FindsUpto, Finds}
 use Rattle.frame.specs.declared.Found.{Found}
 use Rattle.frame.specs.declared.Found.the-variants.{Nothing, Upto}
 use Rattle.frame.proofs.Flags.{flags-fit}
@@ -21,22 +19,19 @@ use Rattle.frame.proofs.Flags.{flags-fit}
 -- what an answer says of the cutting that it stands for
 module _ (x : Cutting) (B : List Bool) (count : ℕ) (plain : List ℕ) (found : Found) (f : Finds x B count plain found) where
   pub is-nothing : found ≡ Nothing → x ≡ uncut
-  is-nothing e = sym (f .cutting) ∙ ap (foundCutting B plain) e
+  is-nothing e = rw e at f
 
-  pub is-upto : (size next : ℕ) → found ≡ Upto size next → x ≡ cutInto (take size (bits plain)) (drop next B)
-  is-upto size next e = sym (f .cutting) ∙ ap (foundCutting B plain) e
-
-  pub is-within : (size next : ℕ) → found ≡ Upto size next → (size ≤ mostBits) × (next ≤ count)
-  is-within size next e = rw e at (f .within)
+  pub is-upto : (size next : ℕ) → found ≡ Upto size next → FindsUpto x B count plain size next
+  is-upto size next e = rw e at f
 
 module _ (B : List Bool) (start count k : ℕ) (lb : length B ≡ count) (ek : k ≡ flagsAt 6 (drop start B)) where
-  pub framed-few : (plain : List ℕ) → k < 2 → Finds (framed (drop start B)) B count plain Nothing
+  pub framed-few : k < 2 → framed (drop start B) ≡ uncut
   unfolding framed
-  framed-few plain h = record { cutting = rw (← ek, lt-leb 2 k h); within = tt }
+  framed-few h = rw (← ek, lt-leb 2 k h)
 
-  pub framed-many : (plain : List ℕ) → 2 ≤ k → 5 < k → Finds (framed (drop start B)) B count plain Nothing
+  pub framed-many : 2 ≤ k → 5 < k → framed (drop start B) ≡ uncut
   unfolding framed
-  framed-many plain l h = record { cutting = rw (← ek, le-leb 2 k l, lt-leb k 5 h); within = tt }
+  framed-many l h = rw (← ek, le-leb 2 k l, lt-leb k 5 h)
 
   -- the place behind the opening flags
   pub behind-opening : start ≤ count → start + k * 8 ≤ count
@@ -48,15 +43,18 @@ module _ (B : List Bool) (start count k : ℕ) (lb : length B ≡ count) (ek : k
     framed-is = rw (← ek, le-leb 2 k l, le-leb k 5 h, drop-drop (k * 8) start B)
 
     module _ (plain : List ℕ) (found : Found) (f : Finds (contentFrom 5 (drop (start + k * 8) B)) B count plain found) where
-      pub framed-nothing : found ≡ Nothing → Finds (framed (drop start B)) B count plain Nothing
-      framed-nothing e = record { cutting = sym (framed-is ∙ ap closed (is-nothing _ B count plain found f e)); within = tt }
+      pub framed-nothing : found ≡ Nothing → framed (drop start B) ≡ uncut
+      framed-nothing e = framed-is ∙ ap closed (is-nothing _ B count plain found f e)
 
       pub framed-upto : (size next m : ℕ) → found ≡ Upto size next → m ≡ flagsAt 3 (drop next B) → Finds (framed (drop start B)) B count plain (Upto size (next + m * 8))
       framed-upto size next m e em =
-          let w = is-within _ B count plain found f size next e in
+          let u = is-upto _ B count plain found f size next e in
           record {
-            cutting = sym (framed-is ∙ ap closed (is-upto _ B count plain found f size next e) ∙ rw (← em, drop-drop (m * 8) next B));
-            within = (w .0, omega (arith, flags-fit 3 (drop next B), length-drop next B));
+            content = u .content;
+            cutting = framed-is ∙ ap closed (u .cutting) ∙ rw (← em, drop-drop (m * 8) next B);
+            long = u .long;
+            stands = u .stands;
+            within = omega (arith, u .within, flags-fit 3 (drop next B), length-drop next B);
           }
 
 -- the frame alone: nothing behind it
@@ -72,11 +70,9 @@ module _ (B : List Bool) (count : ℕ) (lb : length B ≡ count) (plain : List �
 
   pub alone-more : (size next : ℕ) → found ≡ Upto size next → (next ≡ count → ⊥) → alone (framed B) ≡ refused 2
   alone-more size next e n =
-      ap alone (is-upto _ B count plain found f size next e)
-      ∙ alone-left (take size (bits plain)) (drop next B) (omega (arith, length-drop next B, is-within _ B count plain found f size next e .1))
+      let u = is-upto _ B count plain found f size next e in
+      ap alone (u .cutting) ∙ alone-left (u .content) (drop next B) (omega (arith, length-drop next B, u .within))
 
-  pub alone-checked : (size next : ℕ) → found ≡ Upto size next → next ≡ count → alone (framed B) ≡ checked (take size (bits plain))
+  pub alone-checked : (size next : ℕ) (u : FindsUpto (framed (drop 0 B)) B count plain size next) → next ≡ count → alone (framed B) ≡ checked (u .content)
   unfolding alone
-  alone-checked size next e n =
-      ap alone (is-upto _ B count plain found f size next e)
-      ∙ ap (λ (r : List Bool). alone (cutInto (take size (bits plain)) r)) (ap (λ (m : ℕ). drop m B) (n ∙ sym lb) ∙ drop-length B)
+  alone-checked size next u n = ap alone (u .cutting) ∙ ap (λ (r : List Bool). alone (cutInto (u .content) r)) (ap (λ (m : ℕ). drop m B) (n ∙ sym lb) ∙ drop-length B)

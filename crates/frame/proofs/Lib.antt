@@ -4,9 +4,15 @@ pub mod Zeros
 pub mod Pens
 pub mod Scanning
 pub mod Sights
+pub mod Every
+pub mod Starts
+pub mod Widening
+pub mod Quills
+pub mod Marking
+pub mod Keeping
+pub mod Windows
 pub mod Taking
-pub mod Fives
-pub mod Pieces
+pub mod Ending
 pub mod Progress
 pub mod Framing
 pub mod Checking

@@ -1,9 +1,9 @@
--- Bits sent with the zeros that they need: two lists one after the other, the length, and what is put piece by piece. The length of a frame.
+-- Bits sent with the zeros that they need: two lists one after the other, and the length. A frame: its length, and what puts it part by part.
 -- Assumes nothing.
 use Prim.Native.Nat.{ℕ, zero, suc, _+_, _*_, _/_, _%_, _<_, _≤_}
-use mathlib.Core.Path.{_≡_, refl, sym, ap, _∙_}
+use mathlib.Core.Path.{_≡_, refl, sym, ap}
 use mathlib.Core.Bool.{Bool, true, false}
-use mathlib.Core.List.{List, [], _∷_, _++_, append-assoc, append-nil}
+use mathlib.Core.List.{List, [], _∷_, _++_}
 use native.Mathlib.Omega.{arith}
 use lib.ListN.{length, getD, drop, length-append}
 use lib.Seq.{drop-cons}
@@ -15,12 +15,10 @@ use Rattle.fcs.proofs.Registers.{fcs-octets}
 use Rattle.frame.specs.Limits.{mostInformation, mostOpening, mostClosing}
 use Rattle.frame.specs.Stuffing.{flag, stuffed}
 use Rattle.frame.specs.Frame.{flags, content, frame}
-use Rattle.frame.specs.Pen.{lowBits, Ready, Adds, leftAfter}
-use Rattle.frame.specs.Inner.{Inks}
+use Rattle.frame.specs.Pen.{lowBits, Adds, leftAfter}
 use Rattle.frame.specs.declared.Pen.{Pen}
-use Rattle.frame.specs.declared.Ink.{Ink}
 use Rattle.frame.proofs.Flags.{length-flags}
-use Rattle.frame.proofs.Pens.{adds-none, adds-then, ready-then}
+use Rattle.frame.proofs.Pens.{adds-then}
 
 -- zeros are put into two lists, one after the other, piece by piece
 pub stuffed-append : (k : ℕ) (xs ys : List Bool) → stuffed k (xs ++ ys) ≡ stuffed k xs ++ stuffed (leftAfter k xs) ys
@@ -37,14 +35,6 @@ left-append k [] ys = refl
 left-append k (false ∷ xs) ys = left-append 4 xs ys
 left-append zero (true ∷ xs) ys = left-append 4 xs ys
 left-append (suc k) (true ∷ xs) ys = left-append k xs ys
-
--- at most four ones may still come
-pub left-le : (k : ℕ) (bs : List Bool) → k ≤ 4 → leftAfter k bs ≤ 4
-unfolding leftAfter
-left-le k [] h = h
-left-le k (false ∷ bs) h = left-le 4 bs (omega arith)
-left-le zero (true ∷ bs) h = left-le 4 bs (omega arith)
-left-le (suc k) (true ∷ bs) h = left-le k bs (omega arith)
 
 -- at most one zero for five bits
 pub stuffed-length : (k : ℕ) (bs : List Bool) → k ≤ 4 → 5 * length (stuffed k bs) + k ≤ 6 * length bs + 4
@@ -106,49 +96,6 @@ bits-next s i h = let e : i + 1 ≡ suc i = omega arith in record { parts = rw (
 pub content-octets : (s : List ℕ) (f : ℕ) → f ≡ number (fcs (bits s)) → Splits (content s) (bits s) (bits (f % 256 ∷ f / 256 ∷ []))
 unfolding content
 content-octets s f e = record { parts = rw e (ap (λ (l : List Bool). bits s ++ l) (sym (fcs-octets s))) }
-
--- what two steps put, one after the other
-inks-then : {a b : List Bool} {out₀ out₁ out₂ : List ℕ} {ink₀ ink₁ ink₂ : Ink} → Inks a out₀ ink₀ out₁ ink₁ → Inks b out₁ ink₁ out₂ ink₂ → Inks (a ++ b) out₀ ink₀ out₂ ink₂
-inks-then {a} {b} {ink₀ = ink₀} x y = record {
-  adds = rw (stuffed-append (ink₀ .left) a b, ← (x .left)) (adds-then (x .adds) (y .adds));
-  left = y .left ∙ rw (left-append (ink₀ .left) a b, ← (x .left));
-}
-
--- of the bits bs all but the last ones, todo, were put with the zeros that they need; there is room for the others
-pub record Inked (bs todo : List Bool) (out₀ : List ℕ) (ink₀ : Ink) (out : List ℕ) (ink : Ink) : Type 0 where
-  pub done : List Bool
-  pub split : done ++ todo ≡ bs
-  pub inks : Inks done out₀ ink₀ out ink
-  pub few : ink .left ≤ 4
-  pub ready : Ready out (ink .pen) (length (stuffed (ink .left) todo))
-
--- none were put yet
-pub inked-none : (bs : List Bool) (out : List ℕ) (ink : Ink) → (ink .left ≤ 4) × Ready out (ink .pen) (length (stuffed (ink .left) bs)) → Inked bs bs out ink out ink
-unfolding stuffed leftAfter
-inked-none bs out ink h = record { done = []; split = refl; inks = record { adds = adds-none out (ink .pen) (h .1 .low); left = refl }; few = h .0; ready = h .1 }
-
-module _ {bs rest : List Bool} {out₀ out₁ : List ℕ} {ink₀ ink₁ : Ink} {a todo : List Bool} (e : Splits rest a todo) (x : Inked bs rest out₀ ink₀ out₁ ink₁) where
-  -- the next bits with their zeros, and the bits behind them
-  next-length : length (stuffed (ink₁ .left) rest) ≡ length (stuffed (ink₁ .left) a) + length (stuffed (leftAfter (ink₁ .left) a) todo)
-  next-length = rw (e .parts, stuffed-append (ink₁ .left) a todo) (length-append (stuffed (ink₁ .left) a) (stuffed (leftAfter (ink₁ .left) a) todo))
-
-  -- there is room for the next bits
-  pub inked-front : (ink₁ .left ≤ 4) × Ready out₁ (ink₁ .pen) (length (stuffed (ink₁ .left) a))
-  inked-front = (x .few, record { low = x .ready .low; fits = omega (arith, x .ready .fits, next-length); few = omega (arith, x .ready .few, next-length) })
-
-  -- the next bits are put
-  pub inked-turn : {out₂ : List ℕ} {ink₂ : Ink} → Inks a out₁ ink₁ out₂ ink₂ → Inked bs todo out₀ ink₀ out₂ ink₂
-  inked-turn y = record {
-    done = x .done ++ a;
-    split = append-assoc (x .done) a todo ∙ (rw (e .parts) at (x .split));
-    inks = inks-then (x .inks) y;
-    few = rw (y .left) (left-le (ink₁ .left) a (x .few));
-    ready = rw (y .left) (ready-then _ _ (x .ready) (y .adds) (omega (arith, next-length)));
-  }
-
--- all were put
-pub inked-end : {bs : List Bool} {out₀ out₁ : List ℕ} {ink₀ ink₁ : Ink} → Inked bs [] out₀ ink₀ out₁ ink₁ → Inks bs out₀ ink₀ out₁ ink₁
-inked-end x = let e = sym (append-nil (x .done)) ∙ x .split in rw e at (x .inks)
 
 -- a frame is put part by part
 pub frame-adds : {out₀ out₁ out₂ out₃ : List ℕ} {pen₀ pen₁ pen₂ pen₃ : Pen} (info : List ℕ) (opening closing : ℕ)

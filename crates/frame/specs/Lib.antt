@@ -4,6 +4,8 @@ pub mod Frame
 pub mod Reader
 pub mod Writer
 pub mod Pen
+pub mod Quill
 pub mod Inner
+pub mod Content
 pub mod Exact
 pub mod Contracts

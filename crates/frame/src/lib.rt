@@ -1,19 +1,20 @@
 // Frames of V.8 bis 7.2: the frame reader and the frame writer. Bits are packed with bit 1 of each octet first.
 ghost use mathlib.Core.Path.{_≡_};
-ghost use mathlib.Core.Bool.{Bool, true, false};
-ghost use mathlib.Core.List.{List, [], _∷_};
-ghost use Prim.Native.Nat.{ℕ, _+_, _-_, _*_, _%_, _^_, _≤_, _<_};
-ghost use lib.Count.{leadingZeros};
-ghost use lib.ListN.{length, getD, take, drop};
+ghost use mathlib.Core.Bool.{Bool, true};
+ghost use mathlib.Core.List.{List, []};
+ghost use Prim.Native.Nat.{ℕ, _+_, _-_, _*_, _/_, _%_, _^_, _≤_, _<_};
+ghost use lib.ListN.{length, getD, set, take, drop};
 ghost use Rattle.octets.specs.Bits.{bits, number, octBefore, packed};
 ghost use Rattle.octets.specs.Lay.{put};
+ghost use Rattle.octets.specs.Places.{lastPlace};
 ghost use Rattle.fcs.specs.Division.{fcs};
 ghost use Rattle.frame.specs.Stuffing.{flag, starts, stuffed, contentFrom};
 ghost use Rattle.frame.specs.Frame.{flags, flagsAt, content, frame, framed};
 ghost use Rattle.frame.specs.Reader.{checked, alone, Reads};
-ghost use Rattle.frame.specs.Pen.{lowBits, Holds, Ready, Adds};
-ghost use Rattle.frame.specs.Inner.{fiveEnd, Inks, Takes, Goes, Ends, Finds};
-ghost use Rattle.frame.specs.Limits.{mostInformation, mostBits, informationRoom, frameRoom, mostOpening, mostClosing};
+ghost use Rattle.frame.specs.Pen.{lowBits, Holds, Ready};
+ghost use Rattle.frame.specs.Quill.{Room, Puts, fiveStarts, Widens, leftOf, Marks};
+ghost use Rattle.frame.specs.Content.{Able, Gains, MarksFives, TakenAs, Ends, Stands, Finds};
+ghost use Rattle.frame.specs.Limits.{mostInformation, mostBits, informationRoom, frameRoom, mostOpening, mostClosing, mostContent};
 ghost use Rattle.frame.specs.Contracts.{FrameReads, FrameWrites};
 use fcs::fcs_of;
 use octets::bit_at;
@@ -69,29 +70,6 @@ struct Pen {
     octet: u8,
 }
 
-// Puts the width lowest bits of a value.
-fn put_bits(out: &mut [u8], pen: Pen, value: u8, width: usize) -> Pen
-    requires { ⌜ (value < 2 ^ width) × (width ≤ 8) × Ready (now out) pen width ⌝ }
-    ensures { λ r. ⌜ Adds (lowBits width value) (now (out .entry)) pen (now (out .exit)) r ⌝ }
-{
-    let at = pen.at;
-    let octet = pen.octet;
-    let shift = at % 8;
-    let both = (octet as u16) + ((value as u16) << shift);
-    if shift + width < 8 {
-        return Pen {
-            at: at + width,
-            octet: both as u8,
-        };
-    }
-    let i = at / 8;
-    out[i] = (both % 256) as u8;
-    Pen {
-        at: at + width,
-        octet: (both / 256) as u8,
-    }
-}
-
 // Stores the octet that the last bits did not fill; its unused bits are zero.
 fn put_last(out: &mut [u8], pen: Pen)
     requires { ⌜ Ready (now out) pen 0 ⌝ }
@@ -105,132 +83,157 @@ fn put_last(out: &mut [u8], pen: Pen)
     }
 }
 
-// Puts count flags.
-fn put_flags(out: &mut [u8], start: Pen, count: usize) -> Pen
-    requires { ⌜ (count ≤ 8) × Ready (now out) start (count * 8) ⌝ }
-    ensures { λ r. ⌜ Adds (flags count) (now (out .entry)) start (now (out .exit)) r ⌝ }
+// Where the next bit goes: the octet's place, the bits of it that are not stored yet, and how many they are.
+struct Quill {
+    at: usize,
+    word: u32,
+    held: u32,
+}
+
+// Puts the width lowest bits of a value.
+fn put_low(out: &mut [u8], quill: Quill, value: u32, width: u32) -> Quill
+    requires { ⌜ (value < 2 ^ width) × (width ≤ 8) × Room (now out) quill width ⌝ }
+    ensures { λ r. ⌜ Puts (lowBits width value) (now (out .entry)) quill (now (out .exit)) r ⌝ }
 {
-    let mut pen = start;
+    let at = quill.at;
+    let held = quill.held;
+    let both = quill.word + (value << held);
+    let full = held + width;
+    if full < 8 {
+        return Quill {
+            at,
+            word: both,
+            held: full,
+        };
+    }
+    out[at] = (both % 256) as u8;
+    Quill {
+        at: at + 1,
+        word: both / 256,
+        held: full - 8,
+    }
+}
+
+// Puts count flags.
+fn put_flags(out: &mut [u8], start: Quill, count: usize) -> Quill
+    requires { ⌜ (count ≤ 8) × Room (now out) start (count * 8) ⌝ }
+    ensures { λ r. ⌜ Puts (flags count) (now (out .entry)) start (now (out .exit)) r ⌝ }
+{
+    let mut quill = start;
     let mut left = count;
     while 0 < left {
-        pen = put_bits(out, pen, FLAG, 8);
+        quill = put_low(out, quill, FLAG as u32, 8);
         left -= 1;
     }
-    pen
+    quill
 }
 
-// A pen, and how many ones may still come before the one that a zero follows.
-struct Ink {
-    pen: Pen,
-    left: usize,
-}
-
-// How many bits of an octet there are up to the first of these: the last of so many ones at its front, or of five in a row. 9 where there are none.
-fn five_end(octet: u8, left: usize) -> usize
-    requires { ⌜ (0 < left) × (left ≤ 5) ⌝ }
-    ensures { λ r. ⌜ r ≡ fiveEnd (left - 1) (lowBits 8 octet) ⌝ }
+// The places of a word where five ones in a row begin; high is what stands above its four lowest bits.
+fn five_starts(word: u32, high: u32) -> u32
+    requires { ⌜ high ≡ word / 16 ⌝ }
+    ensures { λ r. ⌜ r ≡ fiveStarts word ⌝ }
 {
-    if left <= (u8::trailing_zeros(255 - octet) as usize) {
-        return left;
-    }
-    let two = octet & (octet >> 1);
+    let two = word & (word >> 1);
     let four = two & (two >> 2);
-    let five = four & (octet >> 4);
-    if five == 0 {
-        return 9;
+    four & high
+}
+
+// A word of twelve bits, and of as many more as zeros were put into it.
+struct Wide {
+    word: u32,
+    more: u32,
+}
+
+// A word with a zero behind every five ones in a row. What stands above the fifth one moves up: it is added once more.
+fn with_zeros(start: u32, starts: u32) -> Wide
+    requires { ⌜ (start < 4096) × (starts ≡ fiveStarts start) ⌝ }
+    ensures { λ r. ⌜ Widens start r ⌝ }
+{
+    let mut word = start;
+    let mut more = 0u32;
+    let mut place = 0u32;
+    let mut found = starts;
+    while found != 0 {
+        let width = u32::trailing_zeros(found) + 5;
+        found = found >> width;
+        place += width;
+        word += (word >> place) << place;
+        place += 1;
+        more += 1;
     }
-    (u8::trailing_zeros(five) as usize) + 5
+    Wide { word, more }
 }
 
-// The width lowest bits of an octet.
-fn lowest(octet: u8, width: usize) -> u8
-    requires { ⌜ width ≤ 8 ⌝ }
-    ensures { λ r. ⌜ r ≡ octet % 2 ^ width ⌝ }
-{
-    ((octet as u16) % (1u16 << width)) as u8
+// A quill, and the last four bits that were put, as a number.
+struct Mark {
+    quill: Quill,
+    last: u32,
 }
 
-// How many ones an octet ends with.
-fn last_ones(octet: u8) -> usize
-    ensures { λ r. ⌜ r ≡ leadingZeros 8 (255 - octet) ⌝ }
+// Puts a word but for its four lowest bits, which were put before.
+fn put_wide(out: &mut [u8], quill: Quill, wide: Wide) -> Mark
+    requires { ⌜ (wide .word < 2 ^ (12 + wide .more)) × (wide .more ≤ 2) × Room (now out) quill (8 + wide .more) ⌝ }
+    ensures { λ r. ⌜ Puts (lowBits (8 + wide .more) (wide .word / 16)) (now (out .entry)) quill (now (out .exit)) (r .quill) × (r .last ≡ wide .word / 2 ^ (8 + wide .more)) ⌝ }
 {
-    u8::leading_zeros(255 - octet) as usize
-}
-
-// Puts the bits of an octet, with the zeros that they need: up to each fifth one in a row at once, and the rest. The zero behind a fifth one
-// takes its place in front of what is left.
-fn put_pieces(out: &mut [u8], start: Ink, octet: u8, first: usize) -> Ink
-    requires { ⌜ (start .left ≤ 4) × Ready (now out) (start .pen) (length (stuffed (start .left) (octBefore octet []))) × (first ≡ fiveEnd (start .left) (lowBits 8 octet)) ⌝ }
-    ensures { λ r. ⌜ Inks (octBefore octet []) (now (out .entry)) start (now (out .exit)) r ⌝ }
-{
-    let mut pen = start.pen;
-    let mut left = start.left;
-    let mut rest = octet;
-    let mut size = 8usize;
-    let mut width = first;
-    while width <= size {
-        pen = put_bits(out, pen, lowest(rest, width), width);
-        let shift = width - 1;
-        rest = (rest >> shift) - 1;
-        size -= shift;
-        left = 4;
-        width = five_end(rest, left + 1);
-    }
-    let next = put_bits(out, pen, rest, size);
-    Ink {
-        pen: next,
-        left: 4 - last_ones(rest << (8 - size)),
+    let word = wide.word;
+    let more = wide.more;
+    let first = put_low(out, quill, word / 16 % 256, 8);
+    let second = put_low(out, first, word >> 12, more);
+    Mark {
+        quill: second,
+        last: word >> (8 + more),
     }
 }
 
 // Puts the bits of an octet, with the zeros that they need. Where they need none they are put at once.
-fn put_octet(out: &mut [u8], start: Ink, octet: u8) -> Ink
-    requires { ⌜ (start .left ≤ 4) × Ready (now out) (start .pen) (length (stuffed (start .left) (octBefore octet []))) ⌝ }
-    ensures { λ r. ⌜ Inks (octBefore octet []) (now (out .entry)) start (now (out .exit)) r ⌝ }
+fn put_octet(out: &mut [u8], start: Mark, octet: u8) -> Mark
+    requires { ⌜ (start .last < 16) × Room (now out) (start .quill) (length (stuffed (leftOf (start .last)) (octBefore octet []))) ⌝ }
+    ensures { λ r. ⌜ Marks (octBefore octet []) (now (out .entry)) start (now (out .exit)) r ⌝ }
 {
-    let pen = start.pen;
-    let left = start.left;
-    let width = five_end(octet, left + 1);
-    if width <= 8 {
-        return put_pieces(out, start, octet, width);
+    let quill = start.quill;
+    let word = (octet as u32) * 16 + start.last;
+    let starts = five_starts(word, octet as u32);
+    if starts != 0 {
+        let wide = with_zeros(word, starts);
+        return put_wide(out, quill, wide);
     }
-    let next = put_bits(out, pen, octet, 8);
-    Ink {
-        pen: next,
-        left: 4 - last_ones(octet),
+    let next = put_low(out, quill, octet as u32, 8);
+    Mark {
+        quill: next,
+        last: word / 256,
     }
 }
 
 // Puts the bits of a run of octets, with the zeros that they need.
-fn put_octets(out: &mut [u8], start: Ink, run: &[u8]) -> Ink
-    requires { ⌜ (start .left ≤ 4) × Ready (now out) (start .pen) (length (stuffed (start .left) (bits (now run)))) ⌝ }
-    ensures { λ r. ⌜ Inks (bits (now (run .entry))) (now (out .entry)) start (now (out .exit)) r ⌝ }
+fn put_octets(out: &mut [u8], start: Mark, run: &[u8]) -> Mark
+    requires { ⌜ (start .last < 16) × Room (now out) (start .quill) (length (stuffed (leftOf (start .last)) (bits (now run)))) ⌝ }
+    ensures { λ r. ⌜ Marks (bits (now (run .entry))) (now (out .entry)) start (now (out .exit)) r ⌝ }
 {
-    let mut ink = start;
+    let mut mark = start;
     let mut i = 0;
     while i < run.len() {
-        ink = put_octet(out, ink, run[i]);
+        mark = put_octet(out, mark, run[i]);
         i += 1;
     }
-    ink
+    mark
 }
 
 // Puts the information and its FCS f.
-fn put_content(out: &mut [u8], start: Pen, info: &[u8], f: u16) -> Pen
-    requires { ⌜ (f ≡ number (fcs (bits (now info)))) × Ready (now out) start (length (stuffed 4 (content (now info)))) ⌝ }
-    ensures { λ r. ⌜ Adds (stuffed 4 (content (now (info .entry)))) (now (out .entry)) start (now (out .exit)) r ⌝ }
+fn put_content(out: &mut [u8], start: Quill, info: &[u8], f: u16) -> Quill
+    requires { ⌜ (f ≡ number (fcs (bits (now info)))) × Room (now out) start (length (stuffed 4 (content (now info)))) ⌝ }
+    ensures { λ r. ⌜ Puts (stuffed 4 (content (now (info .entry)))) (now (out .entry)) start (now (out .exit)) r ⌝ }
 {
     let first = put_octets(
         out,
-        Ink {
-            pen: start,
-            left: 4,
+        Mark {
+            quill: start,
+            last: 0,
         },
         info,
     );
-    let check = [(f % 256) as u8, (f / 256) as u8];
-    let second = put_octets(out, first, &check);
-    second.pen
+    let second = put_octet(out, first, (f % 256) as u8);
+    let third = put_octet(out, second, (f / 256) as u8);
+    third.quill
 }
 
 // The whole frame, where the information, the flag counts and the output are right. Gives its bit count.
@@ -239,11 +242,26 @@ fn put_frame(info: &[u8], opening: usize, closing: usize, out: &mut [u8]) -> usi
     ensures { λ r. ⌜ (r ≡ length (frame (now (info .entry)) opening closing)) × (now (out .exit) ≡ put (packed (frame (now (info .entry)) opening closing)) (now (out .entry))) ⌝ }
 {
     let f = fcs_of(info);
-    let opened = put_flags(out, Pen { at: 0, octet: 0 }, opening);
+    let opened = put_flags(
+        out,
+        Quill {
+            at: 0,
+            word: 0,
+            held: 0,
+        },
+        opening,
+    );
     let filled = put_content(out, opened, info, f);
     let closed = put_flags(out, filled, closing);
-    put_last(out, closed);
-    closed.at
+    let size = closed.at * 8 + (closed.held as usize);
+    put_last(
+        out,
+        Pen {
+            at: size,
+            octet: closed.word as u8,
+        },
+    );
+    size
 }
 
 // The frame writer: the information between flags, with its FCS. It gives the number of bits.
@@ -287,7 +305,7 @@ fn flag_at(run: &[u8], count: usize, at: usize) -> bool
 
 // How many flags begin at a place of the first count bits of a run, counted up to most.
 fn count_flags(run: &[u8], count: usize, start: usize, most: usize) -> usize
-    requires { ⌜ (count ≤ length (now run) * 8) × (count ≤ mostBits) × (start ≤ count) ⌝ }
+    requires { ⌜ (count ≤ length (now run) * 8) × (start ≤ count) ⌝ }
     ensures { λ r. ⌜ r ≡ flagsAt most (drop start (take count (bits (now (run .entry))))) ⌝ }
 {
     let mut at = start;
@@ -309,47 +327,122 @@ enum Found {
     Upto { bits: usize, next: usize },
 }
 
-// Where the content's next bit goes, how many ones may still come in a row, and whether the last zero stands in the content.
-struct Scan {
-    pen: Pen,
-    left: usize,
-    kept: bool,
+// The content taken so far: how many bits, and those of them that do not fill an octet. The octets stand in plain, as many as it has room for.
+struct Kept {
+    size: usize,
+    rest: u32,
 }
 
-// Takes one bit of the content, no inserted zero.
-fn take_bit(plain: &mut [u8], scan: Scan, one: bool) -> Scan
-    requires { ⌜ (0 < scan .left) × Ready (now plain) (scan .pen) 1 ⌝ }
-    ensures { λ r. ⌜ Takes (one ∷ []) (now (plain .entry)) scan (now (plain .exit)) r ⌝ }
+// Stores an octet where there is room for it.
+fn store_octet(plain: &mut [u8], i: usize, octet: u8)
+    ensures { λ _. ⌜ now (plain .exit) ≡ set (now (plain .entry)) i octet ⌝ }
 {
-    let pen = scan.pen;
-    let left = scan.left;
-    let kept = scan.kept;
-    if one {
-        let next = put_bits(plain, pen, 1, 1);
-        return Scan {
-            pen: next,
-            left: left - 1,
-            kept,
+    if i < plain.len() {
+        plain[i] = octet;
+    }
+}
+
+// Adds the width lowest bits of a value to the content.
+fn keep_bits(plain: &mut [u8], kept: Kept, value: u32, width: usize) -> Kept
+    requires { ⌜ (value < 2 ^ width) × (width ≤ 8) × Able kept width ⌝ }
+    ensures { λ r. ⌜ Gains (lowBits width value) (now (plain .entry)) kept (now (plain .exit)) r ⌝ }
+{
+    let size = kept.size;
+    let rest = kept.rest;
+    let shift = size % 8;
+    let both = rest + (value << shift);
+    if shift + width < 8 {
+        return Kept {
+            size: size + width,
+            rest: both,
         };
     }
-    let next = put_bits(plain, pen, 0, 1);
-    Scan {
-        pen: next,
-        left: 5,
-        kept: true,
+    store_octet(plain, size / 8, (both % 256) as u8);
+    Kept {
+        size: size + width,
+        rest: both / 256,
     }
+}
+
+// The width lowest bits of an octet.
+fn lowest(octet: u8, width: usize) -> u8
+    requires { ⌜ width ≤ 8 ⌝ }
+    ensures { λ r. ⌜ r ≡ octet % 2 ^ width ⌝ }
+{
+    ((octet as u16) % (1u16 << width)) as u8
+}
+
+// What eight bits were: bits of the content and inserted zeros, or these up to a sixth one in a row. Its place among them follows, and
+// whether the zero before the six ones is one of the content.
+enum Taken {
+    All(Kept),
+    Six {
+        kept: Kept,
+        place: usize,
+        real: bool,
+    },
+}
+
+// Takes the eight highest bits of a line, up to each one behind five ones and the rest. The bits before them tell what such a bit is.
+fn take_fives(plain: &mut [u8], start: Kept, line: u32, fives: u32) -> Taken
+    requires { ⌜ Able start 8 × (fives < 256) × MarksFives 8 fives (line / 8192) ⌝ }
+    ensures { λ r. ⌜ TakenAs (line / 8192) (now (plain .entry)) start (now (plain .exit)) r ⌝ }
+{
+    let mut kept = start;
+    let mut word = line >> 13;
+    let mut runs = fives;
+    let mut place = 0usize;
+    while runs != 0 {
+        let zeros = u32::trailing_zeros(runs);
+        let width = zeros as usize;
+        let octet = (word >> 11) as u8;
+        kept = keep_bits(plain, kept, lowest(octet, width) as u32, width);
+        word = word >> zeros;
+        place += width;
+        if (word >> 11) % 2 == 1 {
+            return Taken::Six {
+                kept,
+                place,
+                real: word % 32 != 31,
+            };
+        }
+        word = word >> 1;
+        runs = (runs >> zeros) >> 1;
+        place += 1;
+    }
+    Taken::All(keep_bits(plain, kept, word >> 11, 8 - place))
+}
+
+// Takes the eight highest bits of a line, at once where none of them stands behind five ones.
+fn take_octet(plain: &mut [u8], kept: Kept, line: u32) -> Taken
+    requires { ⌜ Able kept 8 ⌝ }
+    ensures { λ r. ⌜ TakenAs (line / 8192) (now (plain .entry)) kept (now (plain .exit)) r ⌝ }
+{
+    let word = line >> 19;
+    let fives = five_starts(word, word >> 4) % 256;
+    if fives != 0 {
+        return take_fives(plain, kept, line, fives);
+    }
+    Taken::All(keep_bits(plain, kept, line >> 24, 8))
 }
 
 // The sixth one in a row, at a place of the first count bits of a run: the end of the content, where it and the zero before
 // the six ones belong to a flag. The zero and five of the ones stand behind the content then.
-fn end_content(run: &[u8], count: usize, at: usize, plain: &mut [u8], scan: Scan) -> Found
-    requires { ⌜ (count ≤ length (now run) * 8) × (count ≤ mostBits) × (at < count) × Ready (now plain) (scan .pen) 0 × (scan .kept ≡ true → (6 ≤ scan .pen .at) × (6 ≤ at)) ⌝ }
-    ensures { λ r. ⌜ Ends (drop (at + 1) (take count (bits (now (run .entry))))) at (now (plain .entry)) scan (now (plain .exit)) r ⌝ }
+fn end_content(
+    run: &[u8],
+    count: usize,
+    at: usize,
+    plain: &mut [u8],
+    kept: Kept,
+    real: bool,
+) -> Found
+    requires { ⌜ (count ≤ length (now run) * 8) × (at < lastPlace) × (real ≡ true → (6 ≤ kept .size) × (6 ≤ at)) ⌝ }
+    ensures { λ r. ⌜ Ends (drop (at + 1) (take count (bits (now (run .entry))))) at (now (plain .entry)) kept real (now (plain .exit)) r ⌝ }
 {
-    let pen = scan.pen;
-    let kept = scan.kept;
+    let size = kept.size;
+    let rest = kept.rest;
     let behind = at + 1;
-    if !kept {
+    if !real {
         return Found::Nothing;
     }
     if count <= behind {
@@ -358,132 +451,49 @@ fn end_content(run: &[u8], count: usize, at: usize, plain: &mut [u8], scan: Scan
     if is_one(bit_at(run, behind)) {
         return Found::Nothing;
     }
-    put_last(plain, pen);
+    store_octet(plain, size / 8, (rest % 256) as u8);
     Found::Upto {
-        bits: pen.at - 6,
+        bits: size - 6,
         next: at - 6,
     }
 }
 
-// Takes eight bits of the content at once, where no five ones in a row end among them.
-fn take_octet(plain: &mut [u8], scan: Scan, octet: u8) -> Scan
-    requires { ⌜ (0 < scan .left) × (scan .left ≤ 5) × (8 < fiveEnd (scan .left - 1) (lowBits 8 octet)) × Ready (now plain) (scan .pen) 8 ⌝ }
-    ensures { λ r. ⌜ Takes (lowBits 8 octet) (now (plain .entry)) scan (now (plain .exit)) r ⌝ }
-{
-    let pen = scan.pen;
-    let next = put_bits(plain, pen, octet, 8);
-    Scan {
-        pen: next,
-        left: 5 - last_ones(octet),
-        kept: true,
-    }
-}
+// The 32 bits before a content, the last highest: a zero behind five ones, for it is none of the content.
+const FIRST_LINE: u32 = 2080374784;
 
-// Takes the bits of an octet up to the fifth one in a row. Where they are more than the ones that were left, a zero stands among them.
-fn take_part(plain: &mut [u8], scan: Scan, octet: u8, width: usize) -> Scan
-    requires { ⌜ (0 < scan .left) × (scan .left ≤ 5) × (width ≡ fiveEnd (scan .left - 1) (lowBits 8 octet)) × (width ≤ 8) × Ready (now plain) (scan .pen) width ⌝ }
-    ensures { λ r. ⌜ Takes (lowBits width octet) (now (plain .entry)) scan (now (plain .exit)) r ⌝ }
-{
-    let pen = scan.pen;
-    let left = scan.left;
-    let kept = scan.kept;
-    let next = put_bits(plain, pen, lowest(octet, width), width);
-    Scan {
-        pen: next,
-        left: 0,
-        kept: kept | (left < width),
-    }
-}
-
-// How far reading has come.
-struct Way {
-    scan: Scan,
-    at: usize,
-}
-
-// Takes one bit, no inserted zero.
-fn take_one(run: &[u8], count: usize, plain: &mut [u8], way: Way) -> Way
-    requires { ⌜ (count ≤ length (now run) * 8) × (count ≤ mostBits) × (way .at < count) × (0 < way .scan .left) × Ready (now plain) (way .scan .pen) 1 ⌝ }
-    ensures { λ r. ⌜ Goes (take count (bits (now (run .entry)))) (now (plain .entry)) way (now (plain .exit)) r ⌝ }
-{
-    let scan = way.scan;
-    let at = way.at;
-    let next = take_bit(plain, scan, is_one(bit_at(run, at)));
-    Way {
-        scan: next,
-        at: at + 1,
-    }
-}
-
-// Leaves out an inserted zero, or takes the next bits: up to the fifth one in a row or eight at once, and one by one where fewer are left.
-fn take_next(run: &[u8], count: usize, plain: &mut [u8], way: Way) -> Way
-    requires { ⌜ (count ≤ length (now run) * 8) × (count ≤ mostBits) × (way .at < count) × (way .scan .left ≤ 5) × (way .scan .left ≡ 0 → getD (bits (now run)) (way .at) false ≡ false) × Ready (now plain) (way .scan .pen) (count - way .at) ⌝ }
-    ensures { λ r. ⌜ Goes (take count (bits (now (run .entry)))) (now (plain .entry)) way (now (plain .exit)) r ⌝ }
-{
-    let scan = way.scan;
-    let at = way.at;
-    let pen = scan.pen;
-    let left = scan.left;
-    if left == 0 {
-        let next = Scan {
-            pen,
-            left: 5,
-            kept: false,
-        };
-        return Way {
-            scan: next,
-            at: at + 1,
-        };
-    }
-    if count - at < 8 {
-        return take_one(run, count, plain, way);
-    }
-    let octet = octet_at(run, at);
-    let width = five_end(octet, left);
-    if 8 < width {
-        let next = take_octet(plain, scan, octet);
-        return Way {
-            scan: next,
-            at: at + 8,
-        };
-    }
-    let next = take_part(plain, scan, octet, width);
-    Way {
-        scan: next,
-        at: at + width,
-    }
-}
-
-// Reads the content from a place of the first count bits of a run, without its inserted zeros, up to the closing flag.
+// Reads the content from a place of the first count bits of a run, without its inserted zeros, up to the closing flag. Bits behind the
+// count are taken with the last ones, but no flag ends at them.
 fn read_content(run: &[u8], count: usize, start: usize, plain: &mut [u8]) -> Found
-    requires { ⌜ (count ≤ length (now run) * 8) × (count ≤ mostBits) × (start ≤ count) × (length (now plain) ≡ frameRoom) ⌝ }
+    requires { ⌜ (count ≤ length (now run) * 8) × (count + 8 ≤ lastPlace) × (start ≤ count) ⌝ }
     ensures { λ r. ⌜ Finds (contentFrom 5 (drop start (take count (bits (now (run .entry)))))) (take count (bits (now (run .entry)))) count (now (plain .exit)) r ⌝ }
 {
-    let first = Scan {
-        pen: Pen { at: 0, octet: 0 },
-        left: 5,
-        kept: false,
-    };
-    let mut way = Way {
-        scan: first,
-        at: start,
-    };
-    while way.at < count {
-        let scan = way.scan;
-        let at = way.at;
-        if scan.left == 0 {
-            if is_one(bit_at(run, at)) {
-                return end_content(run, count, at, plain, scan);
+    let mut kept = Kept { size: 0, rest: 0 };
+    let mut line = FIRST_LINE;
+    let mut here = start;
+    while here < count {
+        let octet = octet_at(run, here);
+        line = (line >> 8) + ((octet as u32) << 24);
+        let taken = take_octet(plain, kept, line);
+        match taken {
+            Taken::All(next) => {
+                kept = next;
+                here += 8;
+            }
+            Taken::Six {
+                kept: last,
+                place,
+                real,
+            } => {
+                return end_content(run, count, here + place, plain, last, real);
             }
         }
-        way = take_next(run, count, plain, way);
     }
     Found::Nothing
 }
 
 // Reads the frame at a place of the first count bits of a run, and says where it stopped.
 fn read_framed(run: &[u8], count: usize, start: usize, plain: &mut [u8]) -> Found
-    requires { ⌜ (count ≤ length (now run) * 8) × (count ≤ mostBits) × (start ≤ count) × (length (now plain) ≡ frameRoom) ⌝ }
+    requires { ⌜ (count ≤ length (now run) * 8) × (count + 8 ≤ lastPlace) × (start ≤ count) ⌝ }
     ensures { λ r. ⌜ Finds (framed (drop start (take count (bits (now (run .entry)))))) (take count (bits (now (run .entry)))) count (now (plain .exit)) r ⌝ }
 {
     let opening = count_flags(run, count, start, MOST_OPENING + 1);
@@ -516,10 +526,10 @@ fn pair_at(run: &[u8], at: usize) -> u16
     high * 256 + low
 }
 
-// Checks the content, the first size bits of plain, and gives out its information.
+// Checks the content of so many bits, which stand in plain where they are not too many, and gives out its information.
 fn check_content(plain: &[u8], size: usize, out: &mut [u8]) -> FrameRead
-    requires { ⌜ (size ≤ mostBits) × (length (now plain) ≡ frameRoom) × (informationRoom ≤ length (now out)) ⌝ }
-    ensures { λ r. ⌜ Reads (checked (take size (bits (now (plain .entry))))) (now (out .entry)) r (now (out .exit)) ⌝ }
+    requires { ⌜ (length (now plain) ≡ mostContent) × (informationRoom ≤ length (now out)) ⌝ }
+    ensures { λ r. ⌜ ((cs : List Bool) → length cs ≡ size → Stands size cs (now (plain .entry)) → Reads (checked cs) (now (out .entry)) r (now (out .exit))) ⌝ }
 {
     if size % 8 != 0 {
         return FrameRead::SplitOctet;
@@ -542,10 +552,10 @@ fn check_content(plain: &[u8], size: usize, out: &mut [u8]) -> FrameRead
 
 // The frame reader, where the count, the run and the output are right.
 fn read_whole(run: &[u8], count: usize, out: &mut [u8]) -> FrameRead
-    requires { ⌜ (count ≤ length (now run) * 8) × (count ≤ mostBits) × (informationRoom ≤ length (now out)) ⌝ }
+    requires { ⌜ (count ≤ length (now run) * 8) × (count + 8 ≤ lastPlace) × (informationRoom ≤ length (now out)) ⌝ }
     ensures { λ r. ⌜ Reads (alone (framed (take count (bits (now (run .entry)))))) (now (out .entry)) r (now (out .exit)) ⌝ }
 {
-    let mut plain = [0u8; 88];
+    let mut plain = [0u8; 66];
     let found = read_framed(run, count, 0, &mut plain);
     match found {
         Found::Nothing => FrameRead::BadFlags,

@@ -16,19 +16,19 @@ returns : tie.Need-returns
 returns c =
     let st = c .before .before .before in
     let a = st .args in
-    reads-refused _ (a .out .now) 3 SplitOctet (checked-3 (a .plain .now) (a .size) (st .pre .1) (st .pre .0) (c .if1 .taken)) refl
+    λ cs l s. reads-refused _ (a .out .now) 3 SplitOctet (checked-3 cs (a .size) l (c .if1 .taken)) refl
 
 returns-2 : tie.Need-returns-2
 returns-2 c =
     let st = c .before .before .before .before in
     let a = st .args in
-    reads-refused _ (a .out .now) 4 TooShort (checked-4 (a .plain .now) (a .size) (st .pre .1) (st .pre .0) (c .before .if1 .left) (c .if2 .taken)) refl
+    λ cs l s. reads-refused _ (a .out .now) 4 TooShort (checked-4 cs (a .size) l (c .before .if1 .left) (c .if2 .taken)) refl
 
 returns-3 : tie.Need-returns-3
 returns-3 c =
     let st = c .before .before .before .before .before in
     let a = st .args in
-    reads-refused _ (a .out .now) 5 TooLong (checked-5 (a .plain .now) (a .size) (st .pre .1) (st .pre .0) (c .before .before .if1 .left) (c .if3 .taken)) refl
+    λ cs l s. reads-refused _ (a .out .now) 5 TooLong (checked-5 cs (a .size) l (c .before .before .if1 .left) (c .if3 .taken)) refl
 
 slice-aggregate-fcs-of : tie.Need-slice-aggregate-fcs-of
 slice-aggregate-fcs-of c =
@@ -42,7 +42,7 @@ returns-4 c =
     let st = sk .before in
     let a = st .args in
     let ox : AreOctets (a .plain .now) = λ i h. sk .shared-slice-known .given i .fits in
-    reads-refused _ (a .out .now) 6 WrongCheck (checked-6 (a .plain .now) (a .size) (st .pre .1) (st .pre .0) (a .size / 8 - 2) _ _ _ (e3 .before .before .if1 .left) (omega arith) (omega arith) (omega arith) ox refl refl (c .before .before .fcs-of .ensures) (λ e. c .if4 .taken (e ∙ sym (c .before .pair-at .ensures)))) refl
+    λ cs l s. reads-refused _ (a .out .now) 6 WrongCheck (checked-6 (a .plain .now) (a .size) (st .pre .0) (a .size / 8 - 2) _ _ _ (e3 .before .before .if1 .left) (omega arith) (omega arith) (omega arith) ox refl refl (c .before .before .fcs-of .ensures) cs l s (λ e. c .if4 .taken (e ∙ sym (c .before .pair-at .ensures)))) refl
 
 returns-5 : tie.Need-returns-5
 returns-5 c =
@@ -52,10 +52,10 @@ returns-5 c =
     let st = sk .before in
     let a = st .args in
     let ox : AreOctets (a .plain .now) = λ i h. sk .shared-slice-known .given i .fits in
-    let l : length (take (a .size / 8 - 2) (a .plain .now)) ≡ a .size / 8 - 2 = length-take-le (a .size / 8 - 2) (a .plain .now) (omega arith) in
-    reads-given _ (take (a .size / 8 - 2) (a .plain .now)) (a .out .now) _ (a .size / 8 - 2)
-    (checked-ok (a .plain .now) (a .size) (st .pre .1) (st .pre .0) (a .size / 8 - 2) _ _ _ (e3 .before .before .if1 .left) (omega arith) (omega arith) (omega arith) ox refl refl (e4 .before .before .fcs-of .ensures) (e4 .if4 .left ∙ e4 .before .pair-at .ensures))
-    l
+    let k : length (take (a .size / 8 - 2) (a .plain .now)) ≡ a .size / 8 - 2 = length-take-le (a .size / 8 - 2) (a .plain .now) (omega arith) in
+    λ cs l s. reads-given _ (take (a .size / 8 - 2) (a .plain .now)) (a .out .now) _ (a .size / 8 - 2)
+    (checked-ok (a .plain .now) (a .size) (st .pre .0) (a .size / 8 - 2) _ _ _ (e3 .before .before .if1 .left) (omega arith) (omega arith) (omega arith) ox refl refl (e4 .before .before .fcs-of .ensures) cs l s (e4 .if4 .left ∙ e4 .before .pair-at .ensures))
+    k
     (c .before .before .copy-front .ensures ∙ over-fits (take (a .size / 8 - 2) (a .plain .now)) (a .out .now) (omega arith))
 
 pub check-content-spec : {M : Type 1} → statement M

@@ -29,8 +29,15 @@ flag-at-requires c κs = omega arith
 add-k : tie.Need-add-k Inv-loop μ-loop
 add-k c = omega arith
 
-add-at : tie.Need-add-at Inv-loop μ-loop
-add-at c = omega arith
+-- a flag that begins at a place ends within the bits
+within : tie.Need-add-at Inv-loop μ-loop
+within c =
+    let fa = c .before in
+    let al = fa .before .before in
+    let st = al .before .before in
+    let B = take (st .args .count) (bits (st .args .run .now)) in
+    let l = length-run (st .args .run .now) (st .args .count) (st .pre .0) in
+    omega (arith, flags-next B (al .loop .at) (omega arith) (sym (fa .flag-at .ensures) ∙ c .if1 .taken))
 
 loop-less : tie.Need-loop-less Inv-loop μ-loop
 loop-less c = omega arith
@@ -70,7 +77,7 @@ count-flags-spec =
     loop-holds
     flag-at-requires
     add-k
-    add-at
+    within
     loop-less
     loop-again
     returns

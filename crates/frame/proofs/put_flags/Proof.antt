@@ -3,27 +3,27 @@
 use Prim.Native.Nat.{suc, _-_, _*_, _≤_}
 use mathlib.Core.Path.{_≡_}
 use native.Mathlib.Omega.{arith}
+use borrow.Author.Needs.{needs}
 use Rattle.frame.specs.Frame.{flags}
-use Rattle.frame.specs.Pen.{Adds}
-use Rattle.frame.proofs.Pens.{adds-none, ready-then}
+use Rattle.frame.specs.Quill.{Puts}
 use Rattle.frame.proofs.Flags.{length-flags}
-use Rattle.frame.proofs.Zeros.{flags-turn}
+use Rattle.frame.proofs.Quills.{puts-none, puts-flag, room-then}
 use Rattle.frame.proofs.put_flags.Statement.{statement}
 use Rattle.frame.proofs.put_flags.Tie as tie
 
 abbrev Inv-loop : tie.InvT-loop
-Inv-loop out₀ count pen₀ left₀ out pen left = (left ≤ count) × Adds (flags (count - left)) out₀ pen₀ out pen
+Inv-loop out₀ count quill₀ left₀ out quill left = (left ≤ count) × Puts (flags (count - left)) out₀ quill₀ out quill
 
 abbrev μ-loop : tie.MeasureT-loop
-μ-loop out₀ count pen₀ left₀ out pen left = left
+μ-loop out₀ count quill₀ left₀ out quill left = left
 
 loop-holds : tie.Need-loop-holds Inv-loop μ-loop
 unfolding flags
-loop-holds c = let s = c .before in (omega arith, let e : s .args .count - s .args .count ≡ 0 = omega arith in rw e (adds-none (s .args .out .now) (s .args .start) (s .pre .1 .low)))
+loop-holds c = let s = c .before in (omega arith, let e : s .args .count - s .args .count ≡ 0 = omega arith in rw e (puts-none (s .pre .1)))
 
-put-bits-requires : tie.Need-put-bits-requires Inv-loop μ-loop
-put-bits-requires c κs = let l = c .before .before in let s = l .before .before in
-    (omega arith, omega arith, ready-then (s .args .count * 8) 8 (s .pre .1) (l .loop .inv .1) (omega (arith, length-flags (s .args .count - l .loop .left))))
+put-low-requires : tie.Need-put-low-requires Inv-loop μ-loop
+put-low-requires c κs = let l = c .before .before in let s = l .before .before in
+    (omega arith, omega arith, room-then (s .args .count * 8) 8 (s .pre .1) (l .loop .inv .1) (omega (arith, length-flags (s .args .count - l .loop .left))))
 
 sub-left : tie.Need-sub-left Inv-loop μ-loop
 sub-left c = omega arith
@@ -35,10 +35,10 @@ loop-again : tie.Need-loop-again Inv-loop μ-loop
 loop-again c = let p = c .before .before in let l = p .before .before .before in
     let n = l .before .before .args .count in
     let e : suc (n - l .loop .left) ≡ n - (l .loop .left - 1) = omega arith in
-    (omega arith, rw e at (flags-turn (n - l .loop .left) (l .loop .inv .1) (p .put-bits .ensures)))
+    (omega arith, rw e at (puts-flag (n - l .loop .left) (l .loop .inv .1) (p .put-low .ensures)))
 
 same-length : tie.Need-same-length Inv-loop μ-loop
-same-length c = c .before .loop .inv .1 .size
+same-length c = c .before .loop .inv .1 .adds .size
 
 returns : tie.Need-returns Inv-loop μ-loop
 returns c = let l = c .before in let n = l .before .before .args .count in
@@ -52,7 +52,8 @@ put-flags-spec =
     Inv-loop
     μ-loop
     loop-holds
-    put-bits-requires
+    (λ c. search needs)
+    put-low-requires
     sub-left
     loop-less
     loop-again

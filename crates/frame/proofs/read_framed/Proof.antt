@@ -1,10 +1,10 @@
 -- `frame::read_framed` meets its contract: opening flags, a content, closing flags, each by its own law. Assumes nothing.
 use native.Mathlib.Omega.{arith}
-use lib.ListN.{take, drop}
+use lib.ListN.{take, drop, length-drop}
 use Rattle.octets.specs.Bits.{bits}
-use Rattle.frame.proofs.Flags.{flags-most}
+use Rattle.frame.proofs.Flags.{flags-most, flags-fit}
 use Rattle.frame.proofs.Sights.{length-run}
-use Rattle.frame.proofs.Framing.{is-within, behind-opening, framed-few, framed-many, framed-nothing, framed-upto}
+use Rattle.frame.proofs.Framing.{is-upto, behind-opening, framed-few, framed-many, framed-nothing, framed-upto}
 use borrow.Author.Needs.{needs}
 use Rattle.frame.proofs.read_framed.Statement.{statement}
 use Rattle.frame.proofs.read_framed.Tie as tie
@@ -15,7 +15,7 @@ returns c =
     let st = cf .before .before .before in
     let a = st .args in
     let B = take (a .count) (bits (a .run .now)) in
-    framed-few B (a .start) (a .count) (cf .count-flags .result) (length-run (a .run .now) (a .count) (st .pre .0)) (cf .count-flags .ensures) _ (c .if1 .taken)
+    framed-few B (a .start) (a .count) (cf .count-flags .result) (length-run (a .run .now) (a .count) (st .pre .0)) (cf .count-flags .ensures) (c .if1 .taken)
 
 returns-2 : tie.Need-returns-2
 returns-2 c =
@@ -23,7 +23,15 @@ returns-2 c =
     let st = cf .before .before .before in
     let a = st .args in
     let B = take (a .count) (bits (a .run .now)) in
-    framed-many B (a .start) (a .count) (cf .count-flags .result) (length-run (a .run .now) (a .count) (st .pre .0)) (cf .count-flags .ensures) _ (c .before .if1 .left) (c .if2 .taken)
+    framed-many B (a .start) (a .count) (cf .count-flags .result) (length-run (a .run .now) (a .count) (st .pre .0)) (cf .count-flags .ensures) (c .before .if1 .left) (c .if2 .taken)
+
+add-read-content : tie.Need-add-read-content
+add-read-content c =
+    let cf = c .before .before in
+    let st = cf .before .before .before in
+    let a = st .args in
+    let B = take (a .count) (bits (a .run .now)) in
+    omega (arith, behind-opening B (a .start) (a .count) (cf .count-flags .result) (length-run (a .run .now) (a .count) (st .pre .0)) (cf .count-flags .ensures) (st .pre .2))
 
 read-content-requires : tie.Need-read-content-requires
 read-content-requires c κs =
@@ -34,7 +42,6 @@ read-content-requires c κs =
       st .pre .0,
       st .pre .1,
       behind-opening B (a .start) (a .count) (cf .count-flags .result) (length-run (a .run .now) (a .count) (st .pre .0)) (cf .count-flags .ensures) (st .pre .2),
-      st .pre .3,
     )
 
 count-flags-requires-2 : tie.Need-count-flags-requires-2
@@ -42,8 +49,8 @@ count-flags-requires-2 c κs =
     let rc = c .before .before .before .before .before in
     let st = rc .before .before .before .before .before .before .before in
     let a = st .args in
-    let w = is-within _ (take (a .count) (bits (a .run .now))) (a .count) _ (rc .read-content .result) (rc .read-content .ensures) _ _ (c .before .found .given .1) in
-    (st .pre .0, st .pre .1, w .1)
+    let u = is-upto _ (take (a .count) (bits (a .run .now))) (a .count) _ (rc .read-content .result) (rc .read-content .ensures) _ _ (c .before .found .given .1) in
+    (st .pre .0, u .within)
 
 mul-t16 : tie.Need-mul-t16
 mul-t16 c =
@@ -57,8 +64,10 @@ add-t17 c =
     let rc = c .before .before .before .before .before .before in
     let st = rc .before .before .before .before .before .before .before in
     let a = st .args in
-    let w = is-within _ (take (a .count) (bits (a .run .now))) (a .count) _ (rc .read-content .result) (rc .read-content .ensures) _ _ (c .before .before .found .given .1) in
-    omega (arith, w .1, c .count-flags2 .ensures, flags-most 3 (drop (c .before .before .found .given .0 .1 .0) (take (a .count) (bits (a .run .now)))))
+    let B = take (a .count) (bits (a .run .now)) in
+    let u = is-upto _ B (a .count) _ (rc .read-content .result) (rc .read-content .ensures) _ _ (c .before .before .found .given .1) in
+    let n = c .before .before .found .given .0 .1 .0 in
+    omega (arith, u .within, c .count-flags2 .ensures, flags-fit 3 (drop n B), length-drop n B, length-run (a .run .now) (a .count) (st .pre .0))
 
 returns-3 : tie.Need-returns-3
 returns-3 c =
@@ -87,7 +96,7 @@ read-framed-spec =
     returns
     returns-2
     (λ c. search needs)
-    (λ c. search needs)
+    add-read-content
     read-content-requires
     (λ c. search needs)
     (λ c. search needs)

@@ -5,7 +5,7 @@ use Rattle.octets.specs.Bits.{bits}
 use Rattle.frame.specs.declared.FrameRead.the-variants.{BadFlags}
 use Rattle.frame.proofs.Sights.{length-run}
 use Rattle.frame.proofs.Checking.{reads-refused, reads-as}
-use Rattle.frame.proofs.Framing.{is-within, alone-nothing, alone-more, alone-checked}
+use Rattle.frame.proofs.Framing.{is-upto, alone-nothing, alone-more, alone-checked}
 use borrow.Author.Needs.{needs}
 use Rattle.frame.proofs.read_whole.Statement.{statement}
 use Rattle.frame.proofs.read_whole.Tie as tie
@@ -19,12 +19,8 @@ returns c =
 
 check-content-requires : tie.Need-check-content-requires
 check-content-requires c κs =
-    let fd = c .before .before .before .before in
-    let rf = fd .before .before .before in
-    let st = rf .before .before .before .before in
-    let a = st .args in
-    let w = is-within _ (take (a .count) (bits (a .run .now))) (a .count) _ (rf .read-framed .result) (rf .read-framed .ensures) _ _ (fd .found .given .1) in
-    (w .0, rf .read-framed .kept .1 .1 .1 .0, st .pre .2)
+    let rf = c .before .before .before .before .before .before .before in
+    (rf .read-framed .kept .1 .1 .1 .0, rf .before .before .before .before .pre .2)
 
 returns-2 : tie.Need-returns-2
 returns-2 c =
@@ -41,7 +37,10 @@ returns-3 c =
     let rf = fd .before .before .before in
     let st = rf .before .before .before .before in
     let a = st .args in
-    reads-as (alone-checked (take (a .count) (bits (a .run .now))) (a .count) (length-run (a .run .now) (a .count) (st .pre .0)) _ (rf .read-framed .result) (rf .read-framed .ensures) _ _ (fd .found .given .1) (e1 .if1 .left)) (cc .check-content .ensures)
+    let B = take (a .count) (bits (a .run .now)) in
+    let l = length-run (a .run .now) (a .count) (st .pre .0) in
+    let u = is-upto _ B (a .count) _ (rf .read-framed .result) (rf .read-framed .ensures) _ _ (fd .found .given .1) in
+    reads-as (alone-checked B (a .count) l _ (rf .read-framed .result) (rf .read-framed .ensures) _ _ u (e1 .if1 .left)) (cc .check-content .ensures (u .content) (u .long) (u .stands))
 
 pub read-whole-spec : {M : Type 1} → statement M
 read-whole-spec =
