@@ -11,10 +11,10 @@ use lib.ListN.{length, getD, take, drop, length-drop, drop-of-length-le}
 use lib.Seq.{drop-cons, drop-drop, length-take-le}
 use Rattle.octets.specs.Places.{pick, both}
 use Rattle.tree.specs.Fields.{allIn, hasSpar}
-use Rattle.choice.specs.Wishes.{Wish, mostWishes, wishesIn, wishesOf, wishCodes, goodWish, goodRecords, goodWishes}
+use Rattle.choice.specs.Wishes.{Wish, mostWishes, wishesIn, wishesOf, wishCodes}
 use Rattle.choice.specs.Choosing.{Far, suits, chosen, firstSuiting}
 use Rattle.choice.specs.Judging.{fitsSome, fitsReady}
-use Rattle.choice.specs.Inner.{wishAt, wish, Enters, EndsGood, fitsTold}
+use Rattle.choice.specs.Inner.{wishAt, wish, Enters, recordsBy, EndsGood, fitsTold}
 use Rattle.choice.specs.declared.Entry.{Entry}
 use Rattle.choice.specs.declared.Entry.the-variants.{Record, Over}
 use Rattle.choice.specs.declared.Slot.{Slot}
@@ -93,88 +93,89 @@ record-octets run at x e =
     (rw (two-octets run at b, sym (e .1)) at (e .0 zero)) in
     two-octets run at b ∙ rw (sym (e .1), s)
 
--- ---- good records
+-- ---- records whose fields pass a test
 
--- a record whose flag is above 1 is not good
-pub flag-bad : (run : List ℕ) (at : ℕ) → at < length run → 1 < getD run at 0 → EndsGood run at 0
-unfolding goodRecords
-flag-bad run at h g k = rw (drop-cons run at 0 h) (go (drop (suc at) run))
-  where
-    go : (l : List ℕ) → goodRecords (suc k) (getD run at 0 ∷ l) ≡ false
-    go [] = refl
-    go (n ∷ l) = rw (lt-leb (getD run at 0) 1 g)
+module _ (F : List ℕ → Bool) where
+  -- a record whose flag is above 1 is not good
+  pub flag-bad : (run : List ℕ) (at : ℕ) → at < length run → 1 < getD run at 0 → EndsGood F run at 0
+  unfolding recordsBy
+  flag-bad run at h g k = rw (drop-cons run at 0 h) (go (drop (suc at) run))
+    where
+      go : (l : List ℕ) → recordsBy F (suc k) (getD run at 0 ∷ l) ≡ false
+      go [] = refl
+      go (n ∷ l) = rw (lt-leb (getD run at 0) 1 g)
 
--- nor is one that is cut short
-pub cut-bad : (run : List ℕ) (at : ℕ) → at < length run → Enters run at Over → EndsGood run at 0
-unfolding wishesIn goodRecords
-cut-bad run at h e k = go (drop at run) (omega (arith, length-drop at run)) (e zero)
-  where
-    cut : (r n : ℕ) (l : List ℕ) (t : Bool) → pick t (wish (eqb r 1) (take n l) ∷ []) [] ≡ []
-        → both (leb r 1) (both t (both (goodWish (take n l)) (goodRecords k (drop n l)))) ≡ false
-    cut r n l true q = absurd (omega (arith, ap length q))
-    cut r n l false q = both-false (leb r 1)
+  -- nor is one that is cut short
+  pub cut-bad : (run : List ℕ) (at : ℕ) → at < length run → Enters run at Over → EndsGood F run at 0
+  unfolding wishesIn recordsBy
+  cut-bad run at h e k = go (drop at run) (omega (arith, length-drop at run)) (e zero)
+    where
+      cut : (r n : ℕ) (l : List ℕ) (t : Bool) → pick t (wish (eqb r 1) (take n l) ∷ []) [] ≡ []
+          → both (leb r 1) (both t (both (F (take n l)) (recordsBy F k (drop n l)))) ≡ false
+      cut r n l true q = absurd (omega (arith, ap length q))
+      cut r n l false q = both-false (leb r 1)
 
-    go : (l : List ℕ) → 0 < length l → wishesIn (suc zero) l ≡ [] → goodRecords (suc k) l ≡ false
-    go [] g q = absurd (omega arith)
-    go (r ∷ []) g q = refl
-    go (r ∷ (n ∷ l)) g q = cut r n l (leb n (length l)) q
+      go : (l : List ℕ) → 0 < length l → wishesIn (suc zero) l ≡ [] → recordsBy F (suc k) l ≡ false
+      go [] g q = absurd (omega arith)
+      go (r ∷ []) g q = refl
+      go (r ∷ (n ∷ l)) g q = cut r n l (leb n (length l)) q
 
--- one whose flag is 0 or 1 is as good as its field and what is behind it
-judged : (run : List ℕ) (at : ℕ) (x : Slot) → getD run at 0 ≤ 1 → Enters run at (Record x) → (k : ℕ)
-    → goodRecords (suc k) (drop at run) ≡ both (goodWish (wishAt run x .field)) (goodRecords k (drop (x .end) run))
-unfolding goodRecords
-judged run at x g e k =
-    let m : x .start + (x .end - x .start) ≡ x .end = omega (arith, e .2) in
-    let f : leb (x .end - x .start) (length (drop (x .start) run)) ≡ true =
-    le-leb (x .end - x .start) (length (drop (x .start) run)) (omega (arith, length-drop (x .start) run, e .3)) in
-    rw (record-octets run at x e, le-leb (getD run at 0) 1 g, f, drop-drop (x .end - x .start) (x .start) run, m)
+  -- one whose flag is 0 or 1 is as good as its field and what is behind it
+  judged : (run : List ℕ) (at : ℕ) (x : Slot) → getD run at 0 ≤ 1 → Enters run at (Record x) → (k : ℕ)
+      → recordsBy F (suc k) (drop at run) ≡ both (F (wishAt run x .field)) (recordsBy F k (drop (x .end) run))
+  unfolding recordsBy
+  judged run at x g e k =
+      let m : x .start + (x .end - x .start) ≡ x .end = omega (arith, e .2) in
+      let f : leb (x .end - x .start) (length (drop (x .start) run)) ≡ true =
+      le-leb (x .end - x .start) (length (drop (x .start) run)) (omega (arith, length-drop (x .start) run, e .3)) in
+      rw (record-octets run at x e, le-leb (getD run at 0) 1 g, f, drop-drop (x .end - x .start) (x .start) run, m)
 
--- so with a field that is not good it is not
-pub field-bad : (run : List ℕ) (at : ℕ) (x : Slot) → getD run at 0 ≤ 1 → Enters run at (Record x) → goodWish (wishAt run x .field) ≡ false → EndsGood run at 0
-field-bad run at x g e w k = judged run at x g e k ∙ rw w
+  -- so with a field that is not good it is not
+  pub field-bad : (run : List ℕ) (at : ℕ) (x : Slot) → getD run at 0 ≤ 1 → Enters run at (Record x) → F (wishAt run x .field) ≡ false → EndsGood F run at 0
+  field-bad run at x g e w k = judged run at x g e k ∙ rw w
 
--- and with a good one it is
-pub record-good : (run : List ℕ) (at : ℕ) (x : Slot) → getD run at 0 ≤ 1 → Enters run at (Record x) → goodWish (wishAt run x .field) ≡ true → EndsGood run at (x .end)
-record-good run at x g e w = go (x .end) refl
-  where
-    go : (m : ℕ) → x .end ≡ m → EndsGood run at m
-    go zero p = absurd (omega (arith, e .1, e .2))
-    go (suc m) p = (λ k. judged run at x g e k ∙ rw (w, p), omega (arith, e .1, e .2), omega (arith, e .3))
+  -- and with a good one it is
+  pub record-good : (run : List ℕ) (at : ℕ) (x : Slot) → getD run at 0 ≤ 1 → Enters run at (Record x) → F (wishAt run x .field) ≡ true → EndsGood F run at (x .end)
+  record-good run at x g e w = go (x .end) refl
+    where
+      go : (m : ℕ) → x .end ≡ m → EndsGood F run at m
+      go zero p = absurd (omega (arith, e .1, e .2))
+      go (suc m) p = (λ k. judged run at x g e k ∙ rw (w, p), omega (arith, e .1, e .2), omega (arith, e .3))
 
--- ---- a walk that looks whether all records are good
+  -- ---- a walk that looks whether all are such
 
--- the records from a place on, of which so many may be left, decide
-pub record Checks (run : List ℕ) (left at : ℕ) : Type 0 where
-  pub within : at ≤ length run
-  pub same : goodRecords left (drop at run) ≡ goodWishes run
+  -- the records from a place on, of which so many may be left, decide
+  pub record Checks (run : List ℕ) (left at : ℕ) : Type 0 where
+    pub within : at ≤ length run
+    pub same : recordsBy F left (drop at run) ≡ recordsBy F mostWishes run
 
--- a record when none may follow is one too many
-pub one-too-many : (run : List ℕ) (left at : ℕ) → Checks run left at → at < length run → left ≡ 0 → false ≡ goodWishes run
-unfolding goodRecords
-one-too-many run left at c h z = (rw (z, drop-cons run at 0 h) at (c .same))
+  -- a record when none may follow is one too many
+  pub one-too-many : (run : List ℕ) (left at : ℕ) → Checks run left at → at < length run → left ≡ 0 → false ≡ recordsBy F mostWishes run
+  unfolding recordsBy
+  one-too-many run left at c h z = (rw (z, drop-cons run at 0 h) at (c .same))
 
--- a record that is not good decides
-pub bad-decides : (run : List ℕ) (left at r : ℕ) → Checks run left at → 0 < left → EndsGood run at r → r ≡ 0 → false ≡ goodWishes run
-bad-decides run zero at r c h e z = absurd (omega arith)
-bad-decides run (suc k) at zero c h e z = sym (e k) ∙ c .same
-bad-decides run (suc k) at (suc r) c h e z = absurd (omega arith)
+  -- a record that is not good decides
+  pub bad-decides : (run : List ℕ) (left at r : ℕ) → Checks run left at → 0 < left → EndsGood F run at r → r ≡ 0 → false ≡ recordsBy F mostWishes run
+  bad-decides run zero at r c h e z = absurd (omega arith)
+  bad-decides run (suc k) at zero c h e z = sym (e k) ∙ c .same
+  bad-decides run (suc k) at (suc r) c h e z = absurd (omega arith)
 
--- behind a good one the walk goes on
-pub good-passes : (run : List ℕ) (left at r : ℕ) → Checks run left at → 0 < left → EndsGood run at r → (r ≡ 0 → ⊥) → Checks run (left - 1) r
-good-passes run zero at r c h e z = absurd (omega arith)
-good-passes run (suc k) at zero c h e z = absurd (z refl)
-good-passes run (suc k) at (suc r) c h e z =
-    let d : suc k - 1 ≡ k = omega arith in
-    record { within = e .2; same = rw d (sym (e .0 k) ∙ c .same) }
+  -- behind a good one the walk goes on
+  pub good-passes : (run : List ℕ) (left at r : ℕ) → Checks run left at → 0 < left → EndsGood F run at r → (r ≡ 0 → ⊥) → Checks run (left - 1) r
+  good-passes run zero at r c h e z = absurd (omega arith)
+  good-passes run (suc k) at zero c h e z = absurd (z refl)
+  good-passes run (suc k) at (suc r) c h e z =
+      let d : suc k - 1 ≡ k = omega arith in
+      record { within = e .2; same = rw d (sym (e .0 k) ∙ c .same) }
 
--- and at the end of the run they all were good
-pub all-good : (run : List ℕ) (left at : ℕ) → Checks run left at → length run ≤ at → true ≡ goodWishes run
-unfolding goodRecords
-all-good run left at c h = sym (none left) ∙ (rw (drop-of-length-le run {i = at} h) at (c .same))
-  where
-    none : (k : ℕ) → goodRecords k [] ≡ true
-    none zero = refl
-    none (suc k) = refl
+  -- and at the end of the run they all were good
+  pub all-good : (run : List ℕ) (left at : ℕ) → Checks run left at → length run ≤ at → true ≡ recordsBy F mostWishes run
+  unfolding recordsBy
+  all-good run left at c h = sym (none left) ∙ (rw (drop-of-length-le run {i = at} h) at (c .same))
+    where
+      none : (k : ℕ) → recordsBy F k [] ≡ true
+      none zero = refl
+      none (suc k) = refl
 
 -- ---- a walk that asks something of the wishes
 

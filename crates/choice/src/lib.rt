@@ -7,16 +7,22 @@ ghost use lib.ListN.{length};
 ghost use Rattle.octets.specs.Places.{pick, both};
 ghost use Rattle.tree.specs.Fields.{allIn, codesIn, hasSpar};
 ghost use Rattle.tree.specs.Wide.{codesWide};
-ghost use Rattle.choice.specs.Wishes.{wishesOf, goodWish, goodWishes, standardCodes};
-ghost use Rattle.choice.specs.Tables.{allInside};
+ghost use Rattle.choice.specs.Wishes.{mostWishes, wishesOf, standardCodes};
 ghost use Rattle.choice.specs.Choosing.{common, suits, choice, choiceTold};
 ghost use Rattle.choice.specs.Contracts.{ChecksTables, ChoosesReady, ChoosesCommon, JudgesMode};
-ghost use Rattle.choice.specs.Inner.{Enters, EndsGood, farTold, wish, fitsTold};
-use good::is_good;
+ghost use Rattle.good.specs.Contracts.{TellsGood};
+ghost use Rattle.good.specs.Goodness.{Fit};
+ghost use Rattle.choice.specs.Inner.{wishIn, recordsBy, Enters, EndsGood, farTold, wish, fitsTold};
+use judge::is_good_in;
+use learn::learn;
+use learn::put_standard;
 use tree::Field;
 use tree::has_spar;
 use within::lies_within;
 use within::lies_within_far;
+
+mod judge;
+mod learn;
 
 // The most wishes.
 const MOST_WISHES: usize = 16;
@@ -82,20 +88,30 @@ fn entry_at(run: &[u8], at: usize) -> Entry
     })
 }
 
-// Whether octets are a wish's field: a good one, with at least one SPar(1).
-fn is_good_wish(octets: &[u8]) -> bool
-    ensures { λ r. ⌜ r ≡ goodWish (now (octets .entry)) ⌝ }
+// Whether octets are a standard field that an own table or a wish may hold: named standard parameters only, in minimal form.
+pub fn is_good(t: &[u8]) -> bool
+    ensures { λ r. ⌜ TellsGood (now (t .entry)) r ⌝ }
 {
-    if !is_good(octets) {
+    let mut names = [0u32; 16];
+    put_standard(&mut names);
+    is_good_in(t, &names)
+}
+
+// Whether octets are a wish's field: a good one by the names, with at least one SPar(1).
+fn is_good_wish(octets: &[u8], names: &[u32]) -> bool
+    requires { ⌜ Fit (now names) ⌝ }
+    ensures { λ r. ⌜ r ≡ wishIn (now (names .entry)) (now (octets .entry)) ⌝ }
+{
+    if !is_good_in(octets, names) {
         return false;
     }
     has_spar(octets, 0)
 }
 
-// The place behind the record at a place, or 0 where it is cut short or not good.
-fn good_record_end(run: &[u8], at: usize) -> usize
-    requires { ⌜ at < length (now run) ⌝ }
-    ensures { λ r. ⌜ EndsGood (now (run .entry)) at r ⌝ }
+// The place behind the record at a place, or 0 where it is cut short or not good by the names.
+fn good_record_end(run: &[u8], at: usize, names: &[u32]) -> usize
+    requires { ⌜ (at < length (now run)) × Fit (now names) ⌝ }
+    ensures { λ r. ⌜ EndsGood (wishIn (now (names .entry))) (now (run .entry)) at r ⌝ }
 {
     if 1 < run[at] {
         return 0;
@@ -104,7 +120,7 @@ fn good_record_end(run: &[u8], at: usize) -> usize
         Entry::Record(x) => {
             let start = x.start;
             let end = x.end;
-            if is_good_wish(&run[start..end]) {
+            if is_good_wish(&run[start..end], names) {
                 return end;
             }
             0
@@ -113,9 +129,10 @@ fn good_record_end(run: &[u8], at: usize) -> usize
     }
 }
 
-// Whether a run is good wishes: at most 16 records, each good, and nothing behind the last.
-fn are_good_wishes(run: &[u8]) -> bool
-    ensures { λ r. ⌜ r ≡ goodWishes (now (run .entry)) ⌝ }
+// Whether a run is good wishes by the names: at most 16 records, each good, and nothing behind the last.
+fn are_good_wishes(run: &[u8], names: &[u32]) -> bool
+    requires { ⌜ Fit (now names) ⌝ }
+    ensures { λ r. ⌜ r ≡ recordsBy (wishIn (now (names .entry))) mostWishes (now (run .entry)) ⌝ }
 {
     let mut left = MOST_WISHES;
     let mut at = 0usize;
@@ -123,7 +140,7 @@ fn are_good_wishes(run: &[u8]) -> bool
         if left == 0 {
             return false;
         }
-        let next = good_record_end(run, at);
+        let next = good_record_end(run, at, names);
         if next == 0 {
             return false;
         }
@@ -133,45 +150,25 @@ fn are_good_wishes(run: &[u8]) -> bool
     true
 }
 
-// Whether all wishes of a run lie in the own table.
-fn are_inside(own: &[u8], run: &[u8]) -> bool
-    ensures { λ r. ⌜ r ≡ allInside (now (own .entry)) (wishesOf (now (run .entry))) ⌝ }
-{
-    let mut left = MOST_WISHES;
-    let mut at = 0usize;
-    while 0 < left {
-        match entry_at(run, at) {
-            Entry::Record(x) => {
-                let start = x.start;
-                let end = x.end;
-                if !lies_within(&run[start..end], 0, own, 0, Field::Standard) {
-                    return false;
-                }
-                at = end;
-            }
-            Entry::Over => {
-                return true;
-            }
-        }
-        left -= 1;
-    }
-    true
-}
-
-// The own table and the wishes: refusals 2, 3 and 4.
+// The own table and the wishes: refusals 2, 3 and 4. Wishes are judged by the names of the own table; where one fails, all are judged
+// again by the names of all standard parameters, to tell a bad wish from one outside the own table.
 pub fn check_tables(own: &[u8], run: &[u8]) -> Tables
     ensures { λ r. ⌜ ChecksTables (now (own .entry)) (now (run .entry)) r ⌝ }
 {
-    if !is_good(own) {
+    let mut names = [0u32; 16];
+    put_standard(&mut names);
+    if !is_good_in(own, &names) {
         return Tables::BadOwn;
     }
-    if !are_good_wishes(run) {
-        return Tables::BadWishes;
+    learn(own, &mut names);
+    if are_good_wishes(run, &names) {
+        return Tables::Good;
     }
-    if !are_inside(own, run) {
+    put_standard(&mut names);
+    if are_good_wishes(run, &names) {
         return Tables::Outside;
     }
-    Tables::Good
+    Tables::BadWishes
 }
 
 // Whether all parameters of a wish's field are in both the own table and the far list, whose standard field begins at a place.

@@ -25,7 +25,7 @@ use Rattle.tree.proofs.Lowest.{in-bits}
 use Rattle.within.proofs.Taking.{bits-within}
 use Rattle.meaning.specs.Minimal.{fullAtEnd, tight}
 use Rattle.octets.proofs.Laws.{drop-next}
-use Rattle.good.specs.Judging.{allNamed, goodBlock}
+use Rattle.good.specs.Goodness.{allNamed, goodBlock}
 
 -- ---- two tests
 

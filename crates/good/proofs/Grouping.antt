@@ -12,7 +12,6 @@ use lib.Dec.{ltb, eqb}
 use lib.ListN.{length, getD, drop}
 use lib.Pow.{pow-mono}
 use lib.Seq.{getD-drop}
-use Rattle.tree.specs.Codes.{ofF}
 use Rattle.octets.specs.Bits.{num, odd}
 use Rattle.octets.specs.Places.{pick}
 use Rattle.tree.specs.Block.{setBits, blockNumbers, numbers, announced}
@@ -20,24 +19,11 @@ use Rattle.tree.specs.Order.{Ascending}
 use Rattle.tree.proofs.Ascending.{numbers-ascending}
 use Rattle.tree.proofs.Lowest.{lowest, bits-none, bits-below}
 use Rattle.octets.proofs.Laws.{both-true}
-use Rattle.names.specs.Tables.{sparBlocks}
-use Rattle.names.specs.Named.{printedUnder, isStandard}
-use Rattle.names.specs.Masks.{maskOf, sparPlaces}
-use Rattle.names.proofs.Blocks.{every, under-every}
-use Rattle.good.specs.Judging.{sparBits, allNamed}
+use Rattle.good.specs.Goodness.{allNamed}
 
 -- ---- the only SPar(2)
 
--- under an SPar(1) no position but the first is standard
-first-only : (c : ℕ) → 0 < c % ofF → sparBits c < 2
-unfolding sparPlaces maskOf every
-first-only c h =
-    ⊎-elim
-    (λ (e : printedUnder c sparBlocks ≡ []). rw e (omega arith))
-    (λ e. ltb-true (maskOf isStandard (printedUnder c sparBlocks)) 2 (rw (ne-eqb (c % ofF) 0 (λ z. omega arith)) at e))
-    (under-every (λ x printed. pick (eqb (x % ofF) 0) true (ltb (maskOf isStandard printed) 2)) sparBlocks c refl)
-
--- a bit of such a number is its lowest
+-- a bit of a number below 2 is its lowest
 lowest-named : (n q : ℕ) → n < 2 → odd (n / 2 ^ (q - 1)) ≡ true → q ≤ 1
 lowest-named n q h e = go (ltb 1 q) refl
   where
@@ -90,10 +76,10 @@ first-set (o ∷ r) s =
     first true e = omega (arith, (rw e at (numbers-ascending 6 64 6 r 0)) .0)
     first false e = omega (arith, ap length e)
 
-module _ (l : List ℕ) (c e : ℕ) (u : 0 < c % ofF) (h : allNamed (sparBits c) (numbers 6 64 0 l e) ≡ true) where
-  -- the SPar(2) positions that are all standard are none or the first
+module _ (n : ℕ) (l : List ℕ) (e : ℕ) (u : n < 2) (h : allNamed n (numbers 6 64 0 l e) ≡ true) where
+  -- the SPar(2) positions that are all named are none or the first
   pub sub-few : (numbers 6 64 0 l e ≡ []) ⊎ (numbers 6 64 0 l e ≡ 1 ∷ [])
-  sub-few = named-few (sparBits c) (numbers 6 64 0 l e) (first-only c u) (numbers-ascending 6 64 0 l e) h
+  sub-few = named-few n (numbers 6 64 0 l e) u (numbers-ascending 6 64 0 l e) h
 
   -- which the first octet tells
   pub sub-set : eqb (getD l e 0 % 64) 0 ≡ eqb (announced 6 64 l e) 0

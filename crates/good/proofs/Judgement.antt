@@ -1,17 +1,20 @@
--- The main law: a field is well-formed and minimal with standard codes only exactly if it is judged good, block by block.
+-- The main law: a field is well-formed and minimal with codes that pass a test only exactly if it is judged good, block by block, by the
+-- names of that test.
 -- Assumes nothing.
-use Prim.Native.Nat.{ℕ, _+_, _*_, _%_, _≤_, _<_}
+use Prim.Native.Nat.{ℕ, _+_, _-_, _*_, _/_, _%_, _^_, _≤_, _<_}
 use mathlib.Core.Bool.{Bool, true, false, not}
 use mathlib.Core.List.{List, [], _∷_, _++_}
 use mathlib.Core.Logic.{⊎-elim}
 use mathlib.Core.Path.{_≡_, refl, sym, ap, _∙_}
+use native.Mathlib.Nat.{div-eq-of-lt}
 use native.Mathlib.Omega.{arith}
 use lib.Dec.{eqb}
 use lib.ListN.{length, getD, drop}
-use Rattle.octets.specs.Bits.{num}
+use lib.Pow.{pow-mono}
+use Rattle.octets.specs.Bits.{num, odd}
 use Rattle.octets.specs.Places.{pick, both}
 use Rattle.tree.specs.Block.{numbers, behind, announced, ended}
-use Rattle.tree.specs.Codes.{fieldBase, subCodes, groupCodes, groupBehind, parCodes, restCodes, fieldCodes, ofF, ofS}
+use Rattle.tree.specs.Codes.{fieldBase, subCodes, groupCodes, groupBehind, parCodes, restCodes, fieldCodes, ofT, ofS}
 use Rattle.tree.specs.Form.{isFine, andThen, lastForm, formAt, subsForm, groupForm, parsForm, restForm, fieldForm}
 use Rattle.tree.specs.declared.Form.{Form}
 use Rattle.tree.specs.declared.Form.the-variants.{Fine, Early, Wrong, Left, BadLength}
@@ -20,39 +23,35 @@ use Rattle.tree.proofs.Numbering.{numbers-shift, shift}
 use Rattle.octets.proofs.Laws.{both-true}
 use Rattle.meaning.proofs.Reading.{rising-at}
 use Rattle.meaning.proofs.Trees.{Rising}
-use Rattle.names.specs.Named.{standardCode}
-use Rattle.names.specs.Masks.{nparPlaces, sparPlaces}
-use Rattle.names.specs.declared.Keep.the-variants.{Standard}
-use Rattle.names.proofs.Printings.{keeps-npar, keeps-spar1, keeps-spar2}
-use Rattle.good.specs.Good.{allStandard}
-use Rattle.good.specs.Judging.{nparBits, sparBits, allNamed, goodBlock, goodSub, goodGroup, goodPar, goodPars, goodRest, goodStandard}
+use Rattle.good.specs.Goodness.{sparsIn, nparsIn, subsIn, lowsIn, Names, allNamed, goodBlock, goodSub, goodGroup, goodPar, goodPars, goodRest, goodBlocks, allPass}
 use Rattle.good.proofs.Allowed.{both-none, both-assoc}
 use Rattle.good.proofs.Grouping.{sub-few, sub-set}
 
--- codes of two lists are all standard if those of each are
-all-append : (a r : List ℕ) → allStandard (a ++ r) ≡ both (allStandard a) (allStandard r)
-unfolding allStandard
-all-append [] r = refl
-all-append (c ∷ a) r = rw (all-append a r) (sym (both-assoc (standardCode c) (allStandard a) (allStandard r)))
+-- codes of two lists all pass if those of each do
+all-append : (P : ℕ → Bool) (a r : List ℕ) → allPass P (a ++ r) ≡ both (allPass P a) (allPass P r)
+unfolding allPass
+all-append P [] r = refl
+all-append P (c ∷ a) r = rw (all-append P a r) (sym (both-assoc (P c) (allPass P a) (allPass P r)))
 
-pub all-split : (a r : List ℕ) → allStandard (a ++ r) ≡ true → (allStandard a ≡ true) × (allStandard r ≡ true)
-all-split a r h = both-true (allStandard a) (allStandard r) (rw (all-append a r) at h)
+pub pass-split : (P : ℕ → Bool) (a r : List ℕ) → allPass P (a ++ r) ≡ true → (allPass P a ≡ true) × (allPass P r ≡ true)
+pass-split P a r h = both-true (allPass P a) (allPass P r) (sym (all-append P a r) ∙ h)
 
--- the codes of an NPar block are standard exactly if its positions are
-shift-named : (c lo : ℕ) (qs : List ℕ) → c % 512 ≡ 0 → Rising lo qs → allStandard (shift c qs) ≡ allNamed (nparBits c) qs
-unfolding Rising allStandard allNamed nparPlaces
-shift-named c lo [] a r = refl
-shift-named c lo (q ∷ qs) a r = rw (← (keeps-npar Standard c q a (omega (arith, r .0)) (omega (arith, r .1))), shift-named c q qs a (r .2))
+-- the codes of an NPar block pass exactly if its positions are bits of a number, where that number has a bit for each that does
+shift-named : (P : ℕ → Bool) (x c lo : ℕ) (qs : List ℕ) → ((k : ℕ) → 0 < k → k < 512 → odd (x / 2 ^ (k - 1)) ≡ P (c + k)) → Rising lo qs → allPass P (shift c qs) ≡ allNamed x qs
+unfolding Rising allPass allNamed
+shift-named P x c lo [] a r = refl
+shift-named P x c lo (q ∷ qs) a r = rw (a q (omega (arith, r .0)) (omega (arith, r .1)), shift-named P x c q qs a (r .2))
 
--- those of an SPar(2) are only if its positions are
-subs-named : (c lo : ℕ) (ts l : List ℕ) (e : ℕ) → c % ofS ≡ 0 → Rising lo ts → allStandard (subCodes c ts l e) ≡ true → allNamed (sparBits c) ts ≡ true
-unfolding Rising allStandard allNamed subCodes sparPlaces
-subs-named c lo [] l e a r h = refl
-subs-named c lo (t ∷ ts) l e a r h =
-    let d = c + t * 512 in
-    let p = both-true (standardCode d) _ h in
-    let q = all-split (numbers 6 64 d l e) (subCodes c ts l (behind 64 l e)) (p .1) in
-    rw (keeps-spar2 Standard c t a (omega (arith, r .0)) (omega (arith, r .1)), p .0) (subs-named c t ts l (behind 64 l e) a (r .2) (q .1))
+-- those of an SPar(2) block only if they are
+subs-named : (P : ℕ → Bool) (x c lo : ℕ) (ts l : List ℕ) (e : ℕ) → ((t : ℕ) → 0 < t → t < 512 → odd (x / 2 ^ (t - 1)) ≡ P (c + t * ofT)) → Rising lo ts
+    → allPass P (subCodes c ts l e) ≡ true → allNamed x ts ≡ true
+unfolding Rising allPass allNamed subCodes
+subs-named P x c lo [] l e a r h = refl
+subs-named P x c lo (t ∷ ts) l e a r h =
+    let d = c + t * ofT in
+    let p = both-true (P d) _ h in
+    let q = pass-split P (numbers 6 64 d l e) (subCodes c ts l (behind 64 l e)) (p .1) in
+    rw (a t (omega (arith, r .0)) (omega (arith, r .1)), p .0) (subs-named P x c t ts l (behind 64 l e) a (r .2) (q .1))
 
 -- two parts are well-formed if each is
 and-fine : (f x : Form) → isFine (andThen f x) ≡ both (isFine f) (isFine x)
@@ -102,25 +101,32 @@ field-pieces true false true g true o p q a r e = refl
 field-pieces true true true false true o p q a r e = both-none o
 field-pieces true true true true true o p q a r e = e
 
-module _ (l : List ℕ) (short : length l ≤ 64) where
-  npars-named : (w m c e : ℕ) → w ≤ 7 → c % 512 ≡ 0 → allStandard (numbers w m c l e) ≡ allNamed (nparBits c) (numbers w m 0 l e)
-  npars-named w m c e h a = ap allStandard (numbers-shift w m c (drop e l)) ∙ shift-named c 0 (numbers w m 0 l e) a (rising-at l short w m e h)
+module _ {P : ℕ → Bool} {n : List ℕ} (names : Names P n) (l : List ℕ) (short : length l ≤ 64) where
+  npars-named : (x w m c e : ℕ) → w ≤ 7 → ((k : ℕ) → 0 < k → k < 512 → odd (x / 2 ^ (k - 1)) ≡ P (c + k)) → allPass P (numbers w m c l e) ≡ allNamed x (numbers w m 0 l e)
+  npars-named x w m c e h a = ap (allPass P) (numbers-shift w m c (drop e l)) ∙ shift-named P x c 0 (numbers w m 0 l e) a (rising-at l short w m e h)
 
   -- SPar(2) and what it announces
-  lower-judged : (c e : ℕ) → c % ofS ≡ 0 → 0 < c % ofF →
+  lower-judged : (q e : ℕ) → 0 < q → q < 512 →
+      let c = fieldBase 2 + q * ofS in
       let k = announced 6 64 l e in
       let x = behind 64 l e in
       both (both (isFine (formAt 64 l e)) (isFine (subsForm k l x)))
-      (both (both (not (eqb k 0)) (both (tightAt 64 l e) (subsMinimal k l x))) (allStandard (subCodes c (numbers 6 64 0 l e) l x)))
-      ≡ both (not (eqb (getD l e 0 % 64) 0)) (both (goodBlock 6 64 (sparBits c) l e) (goodSub (nparBits (c + 512)) l x))
-  unfolding subsForm subsMinimal subCodes allStandard allNamed sparPlaces goodSub
-  lower-judged c e a u = go (allNamed (sparBits c) ts) refl (allStandard (subCodes c ts l x)) refl
+      (both (both (not (eqb k 0)) (both (tightAt 64 l e) (subsMinimal k l x))) (allPass P (subCodes c (numbers 6 64 0 l e) l x)))
+      ≡ both (not (eqb (getD l e 0 % 64) 0)) (both (goodBlock 6 64 (subsIn n q) l e) (goodSub (lowsIn n q) l x))
+  unfolding subsForm subsMinimal subCodes allPass allNamed goodSub
+  lower-judged q e a u = go (allNamed (subsIn n q) ts) refl (allPass P (subCodes c ts l x)) refl
     where
+      c : ℕ
+      c = fieldBase 2 + q * ofS
+
       x : ℕ
       x = behind 64 l e
 
       ts : List ℕ
       ts = numbers 6 64 0 l e
+
+      few : subsIn n q < 2
+      few = names .fit .1 q
 
       F : Bool
       F = isFine (formAt 64 l e)
@@ -129,27 +135,27 @@ module _ (l : List ℕ) (short : length l ≤ 64) where
       T = tightAt 64 l e
 
       N : Bool
-      N = allNamed (nparBits (c + 512)) (numbers 6 64 0 l x)
+      N = allNamed (lowsIn n q) (numbers 6 64 0 l x)
 
       G : Bool
-      G = goodSub (nparBits (c + 512)) l x
+      G = goodSub (lowsIn n q) l x
 
-      go : (v : Bool) → allNamed (sparBits c) ts ≡ v → (s : Bool) → allStandard (subCodes c ts l x) ≡ s
+      go : (v : Bool) → allNamed (subsIn n q) ts ≡ v → (s : Bool) → allPass P (subCodes c ts l x) ≡ s
           → both (both F (isFine (subsForm (length ts) l x))) (both (both (not (eqb (length ts) 0)) (both T (subsMinimal (length ts) l x))) s)
           ≡ both (not (eqb (getD l e 0 % 64) 0)) (both (both F (both T v)) G)
       go true f s h =
-          rw (sub-set l c e u f)
-          (⊎-elim (λ (z : ts ≡ []). rw z (both-none (both F (isFine (subsForm 0 l x))))) (λ (z : ts ≡ 1 ∷ []). rw (← h, z) (first z)) (sub-few l c e u f))
+          rw (sub-set (subsIn n q) l e few f)
+          (⊎-elim (λ (z : ts ≡ []). rw z (both-none (both F (isFine (subsForm 0 l x))))) (λ (z : ts ≡ 1 ∷ []). rw (← h, z) (first z)) (sub-few (subsIn n q) l e few f))
         where
           first : ts ≡ 1 ∷ []
-              → both (both F (isFine (subsForm 1 l x))) (both (both T (both (tightAt 64 l x) true)) (both (standardCode (c + 1 * 512)) (allStandard (numbers 6 64 (c + 1 * 512) l x ++ []))))
+              → both (both F (isFine (subsForm 1 l x))) (both (both T (both (tightAt 64 l x) true)) (both (P (c + 1 * ofT)) (allPass P (numbers 6 64 (c + 1 * ofT) l x ++ []))))
               ≡ both (both F (both T true)) G
           first z =
-              let named : standardCode (c + 1 * 512) ≡ true = sym (keeps-spar2 Standard c 1 a (omega arith) (omega arith)) ∙ both-true _ true (rw z at f) .0 in
-              let next : c + 1 * 512 ≡ c + 512 = omega arith in
-              rw (named, next, all-append (numbers 6 64 (c + 512) l x) [], npars-named 6 64 (c + 512) x (omega arith) (omega arith), one-fine l x)
+              let named : P (c + 1 * ofT) ≡ true = sym (names .sub q 1 a u (omega arith) (omega arith)) ∙ both-true _ true (rw z at f) .0 in
+              let next : c + 1 * ofT ≡ c + ofT = omega arith in
+              rw (named, next, all-append P (numbers 6 64 (c + ofT) l x) [], npars-named (lowsIn n q) 6 64 (c + ofT) x (omega arith) (λ k. names .low q k a u), one-fine l x)
               (only-sub F T (not (ended l x)) (isFine (formAt 64 l x)) (tightAt 64 l x) N (ended l (behind 64 l x)))
-      go false f true h = absurd (omega (arith, ap num (sym (subs-named c 0 ts l x a (rising-at l short 6 64 e (omega arith)) h) ∙ f)))
+      go false f true h = absurd (omega (arith, ap num (sym (subs-named P (subsIn n q) c 0 ts l x (λ t. names .sub q t a u) (rising-at l short 6 64 e (omega arith)) h) ∙ f)))
       go false f false h =
           rw (
             both-none T,
@@ -159,44 +165,49 @@ module _ (l : List ℕ) (short : length l ≤ 64) where
           )
           (sym (both-none (not (eqb (getD l e 0 % 64) 0))))
 
-  group-judged : (c e : ℕ) → c % ofS ≡ 0 → 0 < c % ofF
-      → both (isFine (groupForm l e)) (both (groupMinimal l e) (allStandard (groupCodes c l e))) ≡ goodGroup c l e
-  unfolding groupForm groupMinimal groupCodes goodGroup allStandard
-  group-judged c e a u =
+  group-judged : (q e : ℕ) → 0 < q → q < 512
+      → both (isFine (groupForm l e)) (both (groupMinimal l e) (allPass P (groupCodes (fieldBase 2 + q * ofS) l e))) ≡ goodGroup n q l e
+  unfolding groupForm groupMinimal groupCodes goodGroup allPass
+  group-judged q e a u =
       let k = announced 6 64 l e in
       let x = behind 64 l e in
-      go (formAt 64 l e) (subsForm k l x) (both (not (eqb k 0)) (both (tightAt 64 l e) (subsMinimal k l x))) (subCodes c (numbers 6 64 0 l e) l x) (ended l e) (lower-judged c e a u)
+      go (formAt 64 l e) (subsForm k l x) (both (not (eqb k 0)) (both (tightAt 64 l e) (subsMinimal k l x))) (subCodes (fieldBase 2 + q * ofS) (numbers 6 64 0 l e) l x) (ended l e) (lower-judged q e a u)
     where
-      go : (f g : Form) (m : Bool) (cs : List ℕ) {r : Bool} (t : Bool) → both (both (isFine f) (isFine g)) (both m (allStandard cs)) ≡ r
-          → both (isFine (pick t Fine (andThen f g))) (both (pick t true m) (allStandard (pick t [] cs))) ≡ pick t true r
+      go : (f g : Form) (m : Bool) (cs : List ℕ) {r : Bool} (t : Bool) → both (both (isFine f) (isFine g)) (both m (allPass P cs)) ≡ r
+          → both (isFine (pick t Fine (andThen f g))) (both (pick t true m) (allPass P (pick t [] cs))) ≡ pick t true r
       go f g m cs true h = refl
       go f g m cs false h = rw (and-fine f g) h
 
-  pars-judged : (b lo : ℕ) (ss : List ℕ) (e : ℕ) → b % ofF ≡ 0 → Rising lo ss
-      → both (isFine (parsForm (length ss) l e)) (both (parsMinimal (length ss) l e) (allStandard (parCodes b ss l e))) ≡ both (allNamed (sparBits b) ss) (goodPars b ss l e)
-  unfolding Rising parsForm parsMinimal parCodes goodPars goodPar allStandard allNamed sparPlaces
-  pars-judged b lo [] e a r = refl
-  pars-judged b lo (s ∷ ss) e a r =
-      let c = b + s * ofS in
+  pars-judged : (lo : ℕ) (ss : List ℕ) (e : ℕ) → Rising lo ss
+      → both (isFine (parsForm (length ss) l e)) (both (parsMinimal (length ss) l e) (allPass P (parCodes (fieldBase 2) ss l e))) ≡ both (allNamed (sparsIn n) ss) (goodPars n ss l e)
+  unfolding Rising parsForm parsMinimal parCodes goodPars goodPar allPass allNamed
+  pars-judged lo [] e r = refl
+  pars-judged lo (s ∷ ss) e r =
+      let c = fieldBase 2 + s * ofS in
       let x = behind 64 l e in
       let y = groupBehind l x in
       let N = numbers 6 64 c l e in
-      let low : c % ofF ≡ s * ofS = omega (arith, r .1) in
+      let some : 0 < s = omega (arith, r .0) in
+      let most : s < 512 = omega (arith, r .1) in
       rw (
         and-fine (formAt 64 l e) (andThen (groupForm l x) (parsForm (length ss) l y)),
         and-fine (groupForm l x) (parsForm (length ss) l y),
-        all-append (N ++ groupCodes c l x) (parCodes b ss l y),
-        all-append N (groupCodes c l x),
-        npars-named 6 64 c e (omega arith) (omega arith),
-        keeps-spar1 Standard b s a (omega (arith, r .0)) (omega (arith, r .1)),
-        ← (group-judged c x (omega arith) (omega (arith, r .0))),
+        all-append P (N ++ groupCodes c l x) (parCodes (fieldBase 2) ss l y),
+        all-append P N (groupCodes c l x),
+        npars-named (nparsIn n s) 6 64 c e (omega arith) (λ k. names .npar s k some most),
+        names .spar s some most,
+        ← (group-judged s x some most),
       )
-      (par-pieces (isFine (formAt 64 l e)) (tightAt 64 l e) (allNamed (nparBits c) (numbers 6 64 0 l e)) (isFine (groupForm l x)) (groupMinimal l x) (allStandard (groupCodes c l x)) (standardCode c)
-      _ _ _ _ _ (pars-judged b s ss y a (r .2)))
+      (par-pieces (isFine (formAt 64 l e)) (tightAt 64 l e) (allNamed (nparsIn n s) (numbers 6 64 0 l e)) (isFine (groupForm l x)) (groupMinimal l x) (allPass P (groupCodes c l x)) (P c)
+      _ _ _ _ _ (pars-judged s ss y (r .2)))
+
+  -- no bit of 0 is set
+  none-named : (k : ℕ) → 0 < k → k < 512 → odd (0 / 2 ^ (k - 1)) ≡ P (fieldBase 2 + k)
+  none-named k a u = rw (div-eq-of-lt {n = 0} {m = 2 ^ (k - 1)} (omega (arith, pow-mono {i = 0} {j = k - 1} (omega arith)))) (sym (names .top k a u))
 
   -- the field
-  pub field-judged : both (isFine (fieldForm l 0)) (both (fieldMinimal l 0) (allStandard (fieldCodes (fieldBase 2) l 0))) ≡ goodStandard l
-  unfolding fieldForm restForm fieldMinimal fieldCodes restCodes goodStandard goodRest
+  pub field-judged : both (isFine (fieldForm l 0)) (both (fieldMinimal l 0) (allPass P (fieldCodes (fieldBase 2) l 0))) ≡ goodBlocks n l
+  unfolding fieldForm restForm fieldMinimal fieldCodes restCodes goodBlocks goodRest
   field-judged =
       let b = fieldBase 2 in
       let x = behind 128 l 0 in
@@ -205,8 +216,8 @@ module _ (l : List ℕ) (short : length l ≤ 64) where
       rw (
         and-fine (formAt 128 l 0) (andThen (formAt 128 l x) (parsForm (length ss) l y)),
         and-fine (formAt 128 l x) (parsForm (length ss) l y),
-        all-append (numbers 7 128 b l 0) (parCodes b ss l y),
-        npars-named 7 128 b 0 (omega arith) (omega arith),
+        all-append P (numbers 7 128 b l 0) (parCodes b ss l y),
+        npars-named 0 7 128 b 0 (omega arith) none-named,
       )
-      (field-pieces (isFine (formAt 128 l 0)) (isFine (formAt 128 l x)) (tightAt 128 l 0) (tightAt 128 l x) (allNamed (nparBits b) (numbers 7 128 0 l 0))
-      _ _ _ _ _ (pars-judged b 0 ss y (omega arith) (rising-at l short 7 128 x (omega arith))))
+      (field-pieces (isFine (formAt 128 l 0)) (isFine (formAt 128 l x)) (tightAt 128 l 0) (tightAt 128 l x) (allNamed 0 (numbers 7 128 0 l 0))
+      _ _ _ _ _ (pars-judged 0 ss y (rising-at l short 7 128 x (omega arith))))

@@ -1,5 +1,10 @@
+pub mod Parts
 pub mod Allowed
 pub mod Grouping
-pub mod Judgement
 pub mod Stepping
-pub mod Parts
+pub mod Judgement
+pub mod Standards
+pub mod Values
+pub mod Putting
+pub mod Learning
+pub mod OwnNames

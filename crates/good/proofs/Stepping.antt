@@ -13,17 +13,14 @@ use lib.ListN.{length, getD, drop, drop-of-length-le, List·getD-eq-default}
 use lib.Pow.{shr-le}
 use Rattle.octets.specs.Bits.{num}
 use Rattle.octets.specs.Places.{pick, both}
-use Rattle.tree.specs.Block.{setBits, blockNumbers, numbers, behind, ended}
-use Rattle.tree.specs.Codes.{fieldBase, subsBehind, groupBehind, parsBehind, restBehind, fieldBehind, ofF, ofS}
+use Rattle.tree.specs.Block.{setBits, blockNumbers, numbers, behind, announced, ended}
+use Rattle.tree.specs.Codes.{subsBehind, groupBehind, parsBehind, restBehind, fieldBehind}
 use Rattle.tree.specs.Form.{isFine, formAt}
 use Rattle.tree.proofs.Forms.{is-fine, end-above, fine-behind}
 use Rattle.tree.proofs.Lowest.{Lowest, lowest, bits-none, bits-below}
 use Rattle.meaning.specs.Minimal.{tightAt}
 use Rattle.octets.proofs.Laws.{both-true, drop-next}
-use Rattle.names.specs.Masks.{nparPlaces, sparPlaces}
-use Rattle.names.specs.declared.Keep.the-variants.{Standard}
-use Rattle.names.specs.declared.Places.{Places}
-use Rattle.good.specs.Judging.{nparBits, sparBits, goodBlock, goodSub, goodGroup, goodPar, goodPars, goodRest, goodStandard, parsJudged}
+use Rattle.good.specs.Goodness.{sparsIn, nparsIn, subsIn, lowsIn, goodBlock, goodSub, goodGroup, goodPar, goodPars, goodRest, goodBlocks, parsJudged}
 use Rattle.good.proofs.Allowed.{both-none}
 use Rattle.good.proofs.Grouping.{sub-few, sub-set}
 
@@ -77,9 +74,9 @@ module _ (n : ℕ) (l : List ℕ) (e : ℕ) where
 
 -- ---- what stands behind NPar(2)
 
-module _ (c : ℕ) (l : List ℕ) (e : ℕ) where
+module _ (n : List ℕ) (q : ℕ) (l : List ℕ) (e : ℕ) where
   abbrev groupJudged : ℕ
-  groupJudged = pick (goodGroup c l e) (groupBehind l e) 0
+  groupJudged = pick (goodGroup n q l e) (groupBehind l e) 0
 
   -- nothing
   pub group-ended : ended l e ≡ true → e ≡ groupJudged
@@ -87,7 +84,7 @@ module _ (c : ℕ) (l : List ℕ) (e : ℕ) where
   group-ended h = rw h
 
   module _ (h : ended l e ≡ false) where
-    group-open : goodGroup c l e ≡ both (not (eqb (getD l e 0 % 64) 0)) (both (goodBlock 6 64 (sparBits c) l e) (goodSub (nparBits (c + 512)) l (behind 64 l e)))
+    group-open : goodGroup n q l e ≡ both (not (eqb (getD l e 0 % 64) 0)) (both (goodBlock 6 64 (subsIn n q) l e) (goodSub (lowsIn n q) l (behind 64 l e)))
     unfolding goodGroup
     group-open = rw h
 
@@ -98,24 +95,20 @@ module _ (c : ℕ) (l : List ℕ) (e : ℕ) where
     pub group-out : length l ≤ e → 0 ≡ groupJudged
     group-out k = group-empty (rw (List·getD-eq-default l 0 {n = e} k))
 
-    module _ {p : Places} {r : ℕ} (s : p ≡ sparPlaces Standard c) (j : r ≡ pick (goodBlock 6 64 (p .bits) l e) (behind 64 l e) 0) where
-      here : r ≡ pick (goodBlock 6 64 (sparBits c) l e) (behind 64 l e) 0
-      here = rw s at j
-
+    module _ {r : ℕ} (j : r ≡ pick (goodBlock 6 64 (subsIn n q) l e) (behind 64 l e) 0) where
       -- SPar(2) is not good
       pub group-bad : r ≡ 0 → 0 ≡ groupJudged
-      group-bad z = rw (group-open, block-bad 6 64 (sparBits c) l e here z, both-none (not (eqb (getD l e 0 % 64) 0)))
+      group-bad z = rw (group-open, block-bad 6 64 (subsIn n q) l e j z, both-none (not (eqb (getD l e 0 % 64) 0)))
 
       -- it is, and an NPar(3) block follows
-      pub group-on : 0 < c % ofF → (getD l e 0 % 64 ≡ 0 → ⊥) → (r ≡ 0 → ⊥) → {q : Places} {v : ℕ} → q ≡ nparPlaces Standard (c + 512)
-          → v ≡ pick (goodSub (q .bits) l r) (behind 64 l r) 0 → v ≡ groupJudged
+      pub group-on : subsIn n q < 2 → (getD l e 0 % 64 ≡ 0 → ⊥) → (r ≡ 0 → ⊥) → {v : ℕ} → v ≡ pick (goodSub (lowsIn n q) l r) (behind 64 l r) 0 → v ≡ groupJudged
       unfolding groupBehind subsBehind
-      group-on u k z {q} {v} n f =
-          let g = block-well 6 64 (sparBits c) l e here z in
+      group-on u k z {v} f =
+          let g = block-well 6 64 (subsIn n q) l e j z in
           let all = both-true (tightAt 64 l e) _ (both-true (isFine (formAt 64 l e)) _ (g .0) .1) .1 in
           let set : eqb (getD l e 0 % 64) 0 ≡ false = ne-eqb _ 0 k in
-          let one : numbers 6 64 0 l e ≡ 1 ∷ [] = ⊎-elim (λ (x : numbers 6 64 0 l e ≡ []). absurd (omega (arith, ap num (rw (set, x) at (sub-set l c e u all))))) (λ x. x) (sub-few l c e u all) in
-          rw (n, g .1) at f ∙ rw (group-open, set, g .0, h, one)
+          let one : numbers 6 64 0 l e ≡ 1 ∷ [] = ⊎-elim (λ (x : numbers 6 64 0 l e ≡ []). absurd (omega (arith, ap num (rw (set, x) at (sub-set (subsIn n q) l e u all))))) (λ x. x) (sub-few (subsIn n q) l e u all) in
+          rw (g .1) at f ∙ rw (group-open, set, g .0, h, one)
 
 -- ---- Par(2) blocks
 
@@ -145,63 +138,63 @@ pars-above zero l e = omega arith
 pars-above (suc k) l e = omega (arith, par-above l e, pars-above k l (groupBehind l (behind 64 l e)))
 
 -- several, by the first, and by the first ones
-pars-next : (b s : ℕ) (ss l : List ℕ) (e : ℕ) → parsJudged b (s ∷ ss) l e ≡ pick (goodPar (b + s * ofS) l e) (parsJudged b ss l (groupBehind l (behind 64 l e))) 0
+pars-next : (n : List ℕ) (s : ℕ) (ss l : List ℕ) (e : ℕ) → parsJudged n (s ∷ ss) l e ≡ pick (goodPar n s l e) (parsJudged n ss l (groupBehind l (behind 64 l e))) 0
 unfolding goodPars parsBehind
-pars-next b s ss l e = go (goodPar (b + s * ofS) l e)
+pars-next n s ss l e = go (goodPar n s l e)
   where
     y : ℕ
     y = groupBehind l (behind 64 l e)
 
-    go : (t : Bool) → pick (both t (goodPars b ss l y)) (parsBehind (length ss) l y) 0 ≡ pick t (parsJudged b ss l y) 0
+    go : (t : Bool) → pick (both t (goodPars n ss l y)) (parsBehind (length ss) l y) 0 ≡ pick t (parsJudged n ss l y) 0
     go true = refl
     go false = refl
 
-pars-append : (b : ℕ) (a r l : List ℕ) (e : ℕ) → parsJudged b (a ++ r) l e ≡ pick (goodPars b a l e) (parsJudged b r l (parsBehind (length a) l e)) 0
+pars-append : (n a r l : List ℕ) (e : ℕ) → parsJudged n (a ++ r) l e ≡ pick (goodPars n a l e) (parsJudged n r l (parsBehind (length a) l e)) 0
 unfolding goodPars parsBehind
-pars-append b [] r l e = refl
-pars-append b (s ∷ a) r l e =
+pars-append n [] r l e = refl
+pars-append n (s ∷ a) r l e =
     let y = groupBehind l (behind 64 l e) in
-    pars-next b s (a ++ r) l e ∙ rw (pars-append b a r l y) (go (goodPar (b + s * ofS) l e) (goodPars b a l y) (parsJudged b r l (parsBehind (length a) l y)))
+    pars-next n s (a ++ r) l e ∙ rw (pars-append n a r l y) (go (goodPar n s l e) (goodPars n a l y) (parsJudged n r l (parsBehind (length a) l y)))
   where
     go : (t u : Bool) (x : ℕ) → pick t (pick u x 0) 0 ≡ pick (both t u) x 0
     go true u x = refl
     go false u x = refl
 
 -- one: its NPar(2) is not good, or it is and the rest is judged
-abbrev parJudged : ℕ → List ℕ → ℕ → ℕ
-parJudged c l e = pick (goodPar c l e) (groupBehind l (behind 64 l e)) 0
+abbrev parJudged : List ℕ → ℕ → List ℕ → ℕ → ℕ
+parJudged n q l e = pick (goodPar n q l e) (groupBehind l (behind 64 l e)) 0
 
-module _ (c : ℕ) (l : List ℕ) (e : ℕ) {p : Places} {r : ℕ} (s : p ≡ nparPlaces Standard c) (j : r ≡ pick (goodBlock 6 64 (p .bits) l e) (behind 64 l e) 0) where
-  first : r ≡ pick (goodBlock 6 64 (nparBits c) l e) (behind 64 l e) 0
+module _ (n : List ℕ) (q : ℕ) (l : List ℕ) (e : ℕ) {x r : ℕ} (s : x ≡ nparsIn n q) (j : r ≡ pick (goodBlock 6 64 x l e) (behind 64 l e) 0) where
+  first : r ≡ pick (goodBlock 6 64 (nparsIn n q) l e) (behind 64 l e) 0
   first = rw s at j
 
-  pub par-bad : r ≡ 0 → 0 ≡ parJudged c l e
+  pub par-bad : r ≡ 0 → 0 ≡ parJudged n q l e
   unfolding goodPar
-  par-bad z = rw (block-bad 6 64 (nparBits c) l e first z)
+  par-bad z = rw (block-bad 6 64 (nparsIn n q) l e first z)
 
-  pub par-on : (r ≡ 0 → ⊥) → {v : ℕ} → v ≡ pick (goodGroup c l r) (groupBehind l r) 0 → v ≡ parJudged c l e
+  pub par-on : (r ≡ 0 → ⊥) → {v : ℕ} → v ≡ pick (goodGroup n q l r) (groupBehind l r) 0 → v ≡ parJudged n q l e
   unfolding goodPar
-  par-on z f = let g = block-well 6 64 (nparBits c) l e first z in rw (g .1) at f ∙ rw (g .0)
+  par-on z f = let g = block-well 6 64 (nparsIn n q) l e first z in rw (g .1) at f ∙ rw (g .0)
 
 -- ---- the positions set in one octet
 
 -- of the 7 positions of an octet above a number some were looked at, those up to q, and the Par(2) blocks before a place were good
-pub record BitsJudged (b above octet : ℕ) (l : List ℕ) (start bits q at : ℕ) : Type 0 where
+pub record BitsJudged (n : List ℕ) (above octet : ℕ) (l : List ℕ) (start bits q at : ℕ) : Type 0 where
   pub left : ℕ
   pub few : left ≤ 7
   pub fits : bits < 2 ^ left
   pub reach : q + left ≡ above + 7
   pub some : 0 < at
-  pub same : parsJudged b (setBits left q bits) l at ≡ parsJudged b (setBits 7 above octet) l start
+  pub same : parsJudged n (setBits left q bits) l at ≡ parsJudged n (setBits 7 above octet) l start
 
-module _ {b above octet : ℕ} {l : List ℕ} {start : ℕ} where
+module _ {n : List ℕ} {above octet : ℕ} {l : List ℕ} {start : ℕ} where
   -- none was yet
-  pub bits-start : octet < 128 → 0 < start → BitsJudged b above octet l start octet above start
+  pub bits-start : octet < 128 → 0 < start → BitsJudged n above octet l start octet above start
   bits-start h s = record { left = 7; few = omega arith; fits = h; reach = refl; some = s; same = refl }
 
-  module _ {bits q at : ℕ} (y : BitsJudged b above octet l start bits q at) where
+  module _ {bits q at : ℕ} (y : BitsJudged n above octet l start bits q at) where
     -- all were
-    pub bits-end : bits ≡ 0 → at ≡ parsJudged b (setBits 7 above octet) l start
+    pub bits-end : bits ≡ 0 → at ≡ parsJudged n (setBits 7 above octet) l start
     unfolding goodPars parsBehind
     bits-end z = let none : setBits (y .left) q bits ≡ [] = rw z (bits-none (y .left) q) in rw none at (y .same)
 
@@ -216,28 +209,21 @@ module _ {b above octet : ℕ} {l : List ℕ} {start : ℕ} where
       pub bits-reach : (trailingZeros 8 bits < 7) × (next ≤ above + 7)
       bits-reach = omega (arith, low .0, y .reach, y .few)
 
-      -- the code of that SPar(1), of S
-      pub bits-code : above ≤ 448 → let c = fieldBase 2 + next * ofS in (c % ofS ≡ 0) × (0 < c % ofF) × (c ≤ (fieldBase 3))
-      bits-code h =
-          let most : next ≤ 511 = omega (arith, bits-reach) in
-          let low : (fieldBase 2 + next * ofS) % ofF ≡ next * ofS = omega arith in
-          (omega arith, omega (arith, low), omega arith)
-
       pub bits-less : bits / 2 ^ trailingZeros 8 bits / 2 < bits
       bits-less = omega (arith, shr-le bits (trailingZeros 8 bits))
 
-      module _ {r : ℕ} (j : r ≡ parJudged (b + next * ofS) l at) where
-        split : parsJudged b (setBits 7 above octet) l start
-            ≡ pick (goodPar (b + next * ofS) l at) (parsJudged b (setBits (y .left - (trailingZeros 8 bits + 1)) next (bits / 2 ^ trailingZeros 8 bits / 2)) l (groupBehind l (behind 64 l at))) 0
-        split = sym (y .same) ∙ rw (low .1) (pars-next b next _ l at)
+      module _ {r : ℕ} (j : r ≡ parJudged n next l at) where
+        split : parsJudged n (setBits 7 above octet) l start
+            ≡ pick (goodPar n next l at) (parsJudged n (setBits (y .left - (trailingZeros 8 bits + 1)) next (bits / 2 ^ trailingZeros 8 bits / 2)) l (groupBehind l (behind 64 l at))) 0
+        split = sym (y .same) ∙ rw (low .1) (pars-next n next _ l at)
 
         -- its Par(2) block is not good, or it is
-        pub bits-bad : r ≡ 0 → 0 ≡ parsJudged b (setBits 7 above octet) l start
-        bits-bad e = sym (split ∙ rw (judged-bad (goodPar (b + next * ofS) l at) _ j (λ g. omega (arith, y .some, par-above l at)) e))
+        pub bits-bad : r ≡ 0 → 0 ≡ parsJudged n (setBits 7 above octet) l start
+        bits-bad e = sym (split ∙ rw (judged-bad (goodPar n next l at) _ j (λ g. omega (arith, y .some, par-above l at)) e))
 
-        pub bits-turn : (r ≡ 0 → ⊥) → BitsJudged b above octet l start (bits / 2 ^ trailingZeros 8 bits / 2) next r
+        pub bits-turn : (r ≡ 0 → ⊥) → BitsJudged n above octet l start (bits / 2 ^ trailingZeros 8 bits / 2) next r
         bits-turn e =
-            let g = judged-good (goodPar (b + next * ofS) l at) _ j e in
+            let g = judged-good (goodPar n next l at) _ j e in
             record {
               left = y .left - (trailingZeros 8 bits + 1);
               few = omega (arith, y .few);
@@ -250,79 +236,81 @@ module _ {b above octet : ℕ} {l : List ℕ} {start : ℕ} where
 -- ---- the positions set in SPar(1)
 
 -- of the block at place e all octets before place i were looked at, and none was its last; the Par(2) blocks before a place were good
-pub record OctetsJudged (b : ℕ) (l : List ℕ) (e start above i at : ℕ) : Type 0 where
+pub record OctetsJudged (n : List ℕ) (l : List ℕ) (e start above i at : ℕ) : Type 0 where
   pub reach : above ≤ 7 * i
   pub some : 0 < at
-  pub same : parsJudged b (numbers 7 128 above l i) l at ≡ parsJudged b (numbers 7 128 0 l e) l start
+  pub same : parsJudged n (numbers 7 128 above l i) l at ≡ parsJudged n (numbers 7 128 0 l e) l start
 
-module _ {b : ℕ} {l : List ℕ} {e start : ℕ} where
+module _ {n : List ℕ} {l : List ℕ} {e start : ℕ} where
   -- none was yet
-  pub octets-start : 0 < start → OctetsJudged b l e start 0 e start
+  pub octets-start : 0 < start → OctetsJudged n l e start 0 e start
   octets-start s = record { reach = omega arith; some = s; same = refl }
 
-  module _ {above i at : ℕ} (y : OctetsJudged b l e start above i at) where
+  module _ {above i at : ℕ} (y : OctetsJudged n l e start above i at) where
     -- the octets are at their end
-    pub octets-end : length l ≤ i → at ≡ parsJudged b (numbers 7 128 0 l e) l start
+    pub octets-end : length l ≤ i → at ≡ parsJudged n (numbers 7 128 0 l e) l start
     unfolding goodPars parsBehind blockNumbers
     octets-end h = rw (drop-of-length-le l {i = i} h) at (y .same)
 
     -- the octet at i was looked at
-    module _ (h : i < length l) {r : ℕ} (j : r ≡ parsJudged b (setBits 7 above (getD l i 0 % 128)) l at) where
+    module _ (h : i < length l) {r : ℕ} (j : r ≡ parsJudged n (setBits 7 above (getD l i 0 % 128)) l at) where
       abbrev qs : List ℕ
       qs = setBits 7 above (getD l i 0 % 128)
 
       abbrev rest : List ℕ
       rest = pick (ltb (getD l i 0) 128) (numbers 7 128 (above + 7) l (i + 1)) []
 
-      cut : parsJudged b (numbers 7 128 0 l e) l start ≡ pick (goodPars b qs l at) (parsJudged b rest l (parsBehind (length qs) l at)) 0
+      cut : parsJudged n (numbers 7 128 0 l e) l start ≡ pick (goodPars n qs l at) (parsJudged n rest l (parsBehind (length qs) l at)) 0
       unfolding blockNumbers
-      cut = sym (y .same) ∙ rw (drop-next l i h, ← (bits-below 7 above (getD l i 0))) (pars-append b qs rest l at)
+      cut = sym (y .same) ∙ rw (drop-next l i h, ← (bits-below 7 above (getD l i 0))) (pars-append n qs rest l at)
 
       -- a Par(2) block is not good
-      pub octets-bad : r ≡ 0 → 0 ≡ parsJudged b (numbers 7 128 0 l e) l start
-      octets-bad z = sym (cut ∙ rw (judged-bad (goodPars b qs l at) _ j (λ g. omega (arith, y .some, pars-above (length qs) l at)) z))
+      pub octets-bad : r ≡ 0 → 0 ≡ parsJudged n (numbers 7 128 0 l e) l start
+      octets-bad z = sym (cut ∙ rw (judged-bad (goodPars n qs l at) _ j (λ g. omega (arith, y .some, pars-above (length qs) l at)) z))
 
       -- all are, and it is the last of the block, or is not
       module _ (z : r ≡ 0 → ⊥) where
-        on : parsJudged b (numbers 7 128 0 l e) l start ≡ parsJudged b rest l r
-        on = let g = judged-good (goodPars b qs l at) _ j z in cut ∙ rw (g .0, ← (g .1))
+        on : parsJudged n (numbers 7 128 0 l e) l start ≡ parsJudged n rest l r
+        on = let g = judged-good (goodPars n qs l at) _ j z in cut ∙ rw (g .0, ← (g .1))
 
-        pub octets-last : 128 ≤ getD l i 0 → r ≡ parsJudged b (numbers 7 128 0 l e) l start
+        pub octets-last : 128 ≤ getD l i 0 → r ≡ parsJudged n (numbers 7 128 0 l e) l start
         unfolding goodPars parsBehind
         octets-last k = sym (on ∙ rw (le-ltb _ _ k))
 
-        pub octets-turn : getD l i 0 < 128 → OctetsJudged b l e start (above + 7) (i + 1) r
+        pub octets-turn : getD l i 0 < 128 → OctetsJudged n l e start (above + 7) (i + 1) r
         octets-turn k = record { reach = omega (arith, y .reach); some = omega (arith, z); same = sym (on ∙ rw (lt-ltb _ _ k)) }
 
 -- ---- a field
 
-module _ (l : List ℕ) where
+module _ (n l : List ℕ) where
   abbrev fieldJudged : ℕ
-  fieldJudged = pick (goodStandard l) (fieldBehind l 0) 0
+  fieldJudged = pick (goodBlocks n l) (fieldBehind l 0) 0
 
-  module _ {p : Places} {e : ℕ} (s : p ≡ nparPlaces Standard (fieldBase 2)) (j : e ≡ pick (goodBlock 7 128 (p .bits) l 0) (behind 128 l 0) 0) where
-    npar1 : e ≡ pick (goodBlock 7 128 (nparBits (fieldBase 2)) l 0) (behind 128 l 0) 0
-    npar1 = rw s at j
+  -- the place behind a good one is not 0
+  pub field-above : goodBlocks n l ≡ true → 0 < fieldBehind l 0
+  unfolding goodBlocks fieldBehind restBehind
+  field-above g =
+      let x = behind 128 l 0 in
+      let f = is-fine (formAt 128 l 0) (both-true _ _ (both-true _ _ g .0) .0) in
+      omega (arith, fine-behind 128 l 0 f, end-above 128 x (drop x l), pars-above (announced 7 128 l x) l (behind 128 l x))
 
+  module _ {e : ℕ} (j : e ≡ pick (goodBlock 7 128 0 l 0) (behind 128 l 0) 0) where
     -- NPar(1) is not good
     pub field-bad : e ≡ 0 → 0 ≡ fieldJudged
-    unfolding goodStandard
-    field-bad z = rw (block-bad 7 128 (nparBits (fieldBase 2)) l 0 npar1 z)
+    unfolding goodBlocks
+    field-bad z = rw (block-bad 7 128 0 l 0 j z)
 
     module _ (z : e ≡ 0 → ⊥) where
-      rest-left : fieldJudged ≡ pick (goodRest (fieldBase 2) l e) (restBehind l e) 0
-      unfolding goodStandard fieldBehind
-      rest-left = let g = block-well 7 128 (nparBits (fieldBase 2)) l 0 npar1 z in rw (g .0, g .1)
+      rest-left : fieldJudged ≡ pick (goodRest n l e) (restBehind l e) 0
+      unfolding goodBlocks fieldBehind
+      rest-left = let g = block-well 7 128 0 l 0 j z in rw (g .0, g .1)
 
-      module _ {q : Places} {r : ℕ} (n : q ≡ sparPlaces Standard (fieldBase 2)) (k : r ≡ pick (goodBlock 7 128 (q .bits) l e) (behind 128 l e) 0) where
-        spar1 : r ≡ pick (goodBlock 7 128 (sparBits (fieldBase 2)) l e) (behind 128 l e) 0
-        spar1 = rw n at k
-
+      module _ {r : ℕ} (k : r ≡ pick (goodBlock 7 128 (sparsIn n) l e) (behind 128 l e) 0) where
         -- SPar(1) is not, or it is and the Par(2) blocks are judged
         pub rest-bad : r ≡ 0 → 0 ≡ fieldJudged
         unfolding goodRest
-        rest-bad f = sym (rest-left ∙ rw (block-bad 7 128 (sparBits (fieldBase 2)) l e spar1 f))
+        rest-bad f = sym (rest-left ∙ rw (block-bad 7 128 (sparsIn n) l e k f))
 
-        pub rest-on : (r ≡ 0 → ⊥) → {v : ℕ} → v ≡ parsJudged (fieldBase 2) (numbers 7 128 0 l e) l r → v ≡ fieldJudged
+        pub rest-on : (r ≡ 0 → ⊥) → {v : ℕ} → v ≡ parsJudged n (numbers 7 128 0 l e) l r → v ≡ fieldJudged
         unfolding goodRest restBehind
-        rest-on f h = let g = block-well 7 128 (sparBits (fieldBase 2)) l e spar1 f in h ∙ sym (rest-left ∙ rw (g .0, ← (g .1)))
+        rest-on f h = let g = block-well 7 128 (sparsIn n) l e k f in h ∙ sym (rest-left ∙ rw (g .0, ← (g .1)))

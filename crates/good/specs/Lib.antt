@@ -1,3 +1,4 @@
 pub mod Good
-pub mod Judging
 pub mod Contracts
+pub mod Goodness
+pub mod Learned

@@ -21,8 +21,7 @@ use Rattle.names.specs.Tables.{Printed, nparBlocks, sparBlocks}
 use Rattle.names.specs.Named.{printedUnder, printedAt, isStandard, standardCode}
 use Rattle.names.proofs.Printings.{printed-of-npar, printed-of-spar1, printed-of-spar2}
 use Rattle.good.specs.Good.{allStandard, goodField}
-use Rattle.good.proofs.Judgement.{all-split}
-use Rattle.good.proofs.Parts.{good-parts}
+use Rattle.good.proofs.Parts.{good-parts, all-split}
 use Rattle.strike.proofs.Filtering.{rising-lower, next-length, length-marked, lower-most}
 use Rattle.strike.proofs.Goodness.{good-tree}
 
