@@ -38,10 +38,10 @@ write_frame plain_write_frame;
 read_message plain_read_message;
 
 /* Where a function begins. The steps alone, without the functions above that call them, are local: bench/run gives them these names.
-   Where rustc has inlined plain's, the function that calls it stands for it. */
+   Where rustc has made several of plain's, the function that calls it stands for it. */
 typedef void entry(void);
 entry step_ours, step_plain;
-#ifdef PLAIN_STEP_INLINED
+#ifdef SEVERAL_PLAIN_STEPS
 #define PLAIN_STEP(name) (entry *)plain_##name
 #else
 #define PLAIN_STEP(name) step_plain
@@ -183,10 +183,9 @@ static void start_spandsp(void)
 static void start_spandsp(void) { }
 #endif
 
-/* The operations. The limit is that of the stack, which is measured from the two entries. */
+/* The operations. The stack is measured from the two entries. */
 struct operation {
     const char *name, *function;
-    size_t limit;
     job *ours, *plain, *spandsp;
     entry *ours_entry, *plain_entry;
 };
@@ -197,14 +196,14 @@ enum { FRAME_READER, FRAME_WRITER, LIST_READER, OCTET_READER, MESSAGE_WRITER, ST
 #define BOTH_ENTRIES(name) (entry *)kamvezhor_##name, (entry *)plain_##name
 
 static const struct operation operations[OPERATIONS] = {
-    {"frame reader", "read_frame", 512, BOTH_JOBS(frame_reader), job_spandsp_frame_reader, BOTH_ENTRIES(read_frame)},
-    {"frame writer", "write_frame", 512, BOTH_JOBS(frame_writer), job_spandsp_frame_writer, BOTH_ENTRIES(write_frame)},
-    {"message reader, numbers", "measure_read", 512, BOTH_JOBS(list_reader), NULL, BOTH_ENTRIES(measure_read)},
-    {"message reader, octets", "read_message", 512, BOTH_JOBS(octet_reader), NULL, BOTH_ENTRIES(read_message)},
-    {"message writer", "measure_write", 512, BOTH_JOBS(message_writer), NULL, BOTH_ENTRIES(measure_write)},
-    {"striking", "measure_strike", 512, BOTH_JOBS(striking), NULL, BOTH_ENTRIES(measure_strike)},
-    {"station step on a list", "measure_list", 1024, BOTH_JOBS(step_list), NULL, step_ours, PLAIN_STEP(measure_list)},
-    {"station step on an MS", "measure_mode", 1024, BOTH_JOBS(step_mode), NULL, step_ours, PLAIN_STEP(measure_mode)},
+    {"frame reader", "read_frame", BOTH_JOBS(frame_reader), job_spandsp_frame_reader, BOTH_ENTRIES(read_frame)},
+    {"frame writer", "write_frame", BOTH_JOBS(frame_writer), job_spandsp_frame_writer, BOTH_ENTRIES(write_frame)},
+    {"message reader, numbers", "measure_read", BOTH_JOBS(list_reader), NULL, BOTH_ENTRIES(measure_read)},
+    {"message reader, octets", "read_message", BOTH_JOBS(octet_reader), NULL, BOTH_ENTRIES(read_message)},
+    {"message writer", "measure_write", BOTH_JOBS(message_writer), NULL, BOTH_ENTRIES(measure_write)},
+    {"striking", "measure_strike", BOTH_JOBS(striking), NULL, BOTH_ENTRIES(measure_strike)},
+    {"station step on a list", "measure_list", BOTH_JOBS(step_list), NULL, step_ours, PLAIN_STEP(measure_list)},
+    {"station step on an MS", "measure_mode", BOTH_JOBS(step_mode), NULL, step_ours, PLAIN_STEP(measure_mode)},
 };
 
 static struct result one, other, third;
@@ -758,7 +757,7 @@ static void measure_stack(void)
             octets = peak(o->plain, o->plain_entry, &measurements[i].in);
             plain = octets > plain ? octets : plain;
         }
-        printf("%s|%s|%zu|%zu|%zu\n", o->name, o->function, ours, plain, o->limit);
+        printf("%s|%s|%zu|%zu\n", o->name, o->function, ours, plain);
     }
 }
 

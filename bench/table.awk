@@ -11,6 +11,20 @@ function grouped(n, s) {
 
 function ratio(a, b) { return b > 0 ? sprintf("%.2f", a / b) : "-" }
 
+function is_frame(name) { return name ~ /^frame/ }
+
+function is_step(name) { return name ~ /^station step/ }
+
+# The goals, and the stack of a step with which the gate fails.
+function most_times(name) { return is_frame(name) ? 1.25 : name == "striking" ? 1.1 : 1 }
+
+function stack_under(name) { return is_step(name) ? 750 : name == "striking" ? 400 : 300 }
+
+BEGIN {
+    most_code = 17500
+    failing_stack = 1024
+}
+
 function shape(on) { return on ~ /flat/ ? "flat" : on ~ /deep/ ? "deep" : "random" }
 
 FNR == 1 { file++ }
@@ -29,11 +43,9 @@ file == 2 {
     cost[key, $6] = $7
 }
 
-file == 3 { stack_name[++stacks] = $1; function_of[stacks] = $2; stack_ours[stacks] = $3; stack_plain[stacks] = $4; limit[stacks] = $5 }
+file == 3 { stack_name[++stacks] = $1; function_of[stacks] = $2; stack_ours[stacks] = $3; stack_plain[stacks] = $4 }
 
 file == 4 { text_ours[$1] = $3; rodata_ours[$1] = $4; text_plain[$1] = $5; rodata_plain[$1] = $6 }
-
-function is_frame(name) { return name ~ /^frame/ }
 
 function frame_row(i, key, ours, plain, other) {
     key = keys[i]
@@ -78,6 +90,11 @@ function growth_row(j, line, part, low, high, factor) {
         grouped(at[line, 64]), low, high, ratio(plain_at[line, 64] - plain_at[line, 32], 2 * (plain_at[line, 32] - plain_at[line, 16]))
 }
 
+# How far octets are from a goal.
+function left(octets, most) {
+    return sprintf("%s octets, %s %s", grouped(octets), grouped(octets > most ? octets - most : most - octets), octets > most ? "above" : "left")
+}
+
 function goal(text, met, told) { printf "- %s: %s, %s.\n", text, met ? "met" : "missed", told }
 
 END {
@@ -109,15 +126,15 @@ END {
         growth_row(j)
 
     print "\n## Stack\n"
-    print "The largest over the inputs above, in octets from the operation's own entry. Its return address counts; what its caller holds, arguments too, does not. A step is measured where `step` is entered (plain's is inside of `hear`), which the function named here calls; the other operations are inside of the functions named here.\n"
-    print "| operation | function | ours | plain | ours / plain | limit |"
+    print "The largest over the inputs above, in octets from the operation's own entry. Its return address counts; what its caller holds, arguments too, does not. A step is measured where `step` is entered, which the function named here calls; the other operations are inside of the functions named here.\n"
+    print "| operation | function | ours | plain | ours / plain | goal, under |"
     print "|---|---|---|---|---|---|"
     for (k = 1; k <= stacks; k++)
         printf "| %s | `%s` | %s | %s | %s | %s |\n", stack_name[k], function_of[k], grouped(stack_ours[k]), grouped(stack_plain[k]), \
-            ratio(stack_ours[k], stack_plain[k]), grouped(limit[k])
+            ratio(stack_ours[k], stack_plain[k]), grouped(stack_under(stack_name[k]))
 
     print "\n## Code\n"
-    print "Octets of what the function needs, linked alone, without the C library (`memcpy`, `memset`). Plain's station has only the measured rows of Table 7.\n"
+    print "Octets of what the function needs, linked alone, without the C library (`memcpy`, `memset`).\n"
     print "| operation | ours .text | plain .text | ours / plain | ours .rodata | plain .rodata |"
     print "|---|---|---|---|---|---|"
     for (k = 1; k <= stacks; k++) {
@@ -128,23 +145,29 @@ END {
 
     print "\n## Goals\n"
     for (k = 1; k <= stacks; k++) {
+        name = stack_name[k]
         worst = 0
         for (i = 1; i <= count; i++)
-            if (operation[i] == stack_name[k] && cost[keys[i], "ours"] / cost[keys[i], "plain"] > worst) {
+            if (operation[i] == name && cost[keys[i], "ours"] / cost[keys[i], "plain"] > worst) {
                 worst = cost[keys[i], "ours"] / cost[keys[i], "plain"]
                 worst_on = on[i]
             }
-        goal("instructions at most 1.00 times plain's, " stack_name[k], worst <= 1, sprintf("at worst %.2f times (%s)", worst, worst_on))
+        goal(sprintf("instructions at most %.2f times plain's, %s", most_times(name), name), worst <= most_times(name), \
+            sprintf("at worst %.3f times (%s)", worst, worst_on))
     }
     goal("cost grows linearly, an octet from 32 to 64 costing at most 1.10 times one from 16 to 32", steepest <= 1.1, \
         sprintf("at worst %.2f times (%s)", steepest, steepest_on))
     for (k = 1; k <= stacks; k++) {
-        met = stack_ours[k] < limit[k]
-        goal("stack under " grouped(limit[k]) " octets, " stack_name[k], met, \
-            sprintf("%s octets, %s %s", grouped(stack_ours[k]), grouped(met ? limit[k] - stack_ours[k] : stack_ours[k] - limit[k]), \
-                met ? "left" : "above"))
-        if (!met && stack_name[k] ~ /^station step/)
+        name = stack_name[k]
+        octets = stack_ours[k]
+        goal("stack under " grouped(stack_under(name)) " octets, " name, octets < stack_under(name), left(octets, stack_under(name)))
+        if (is_step(name) && octets >= failing_stack)
             failed = 1
+    }
+    for (k = 1; k <= stacks; k++) {
+        name = stack_name[k]
+        if (is_step(name))
+            goal(".text at most " grouped(most_code) " octets, " name, text_ours[name] <= most_code, left(text_ours[name], most_code))
     }
     exit failed
 }

@@ -1,8 +1,7 @@
-//! What C calls: the shapes of include/kamvezhor.h and of the crate `measure`.
+//! What C calls but for the station: the shapes of include/kamvezhor.h and of the crate `measure`.
 #![allow(unsafe_code)]
 
 use crate::message::{Fours, Numbers, Refusal};
-use crate::station::{Lent, Phase, Settings, State};
 use crate::{frame, message, rewrite, writer};
 use core::slice::{from_raw_parts as slice, from_raw_parts_mut as slice_mut};
 
@@ -83,7 +82,7 @@ pub unsafe extern "C" fn plain_read_message(
     };
     let mut fours = match Fours::new(slice_mut(list, list_size)) {
         Some(fours) => fours,
-        None => return refused(Refusal::SmallList),
+        None => return refused(Refusal::BadLent),
     };
     match message::read(slice(message, size), &mut fours) {
         Ok(read) => MessageAnswer {
@@ -107,7 +106,7 @@ pub unsafe extern "C" fn plain_measure_read(
 ) -> u64 {
     let mut numbers = match Numbers::new(slice_mut(list, list_size)) {
         Some(numbers) => numbers,
-        None => return REFUSED + Refusal::SmallList as u64,
+        None => return REFUSED + Refusal::BadLent as u64,
     };
     match message::read(slice(message, size), &mut numbers) {
         Ok(_) => numbers.count() as u64,
@@ -149,87 +148,4 @@ pub unsafe extern "C" fn plain_measure_strike(
         Ok(size) => size as u64,
         Err(refusal) => REFUSED + refusal as u64,
     }
-}
-
-/// A field is heard in a phase, 1 ms after its entry; all that can be offered is offered.
-fn hear(
-    phase: Phase,
-    own: &[u8],
-    wishes: &[u8],
-    field: &[u8],
-    out: &mut [u8],
-    store: &mut [u8],
-) -> u64 {
-    let settings = &Settings {
-        eight: true,
-        short: true,
-        ack: true,
-    };
-    let lent = Lent {
-        settings,
-        own,
-        wishes,
-        field,
-        time: 1,
-        out,
-        store,
-    };
-    let stepped = lent.step(State { phase, entry: 0 });
-    (stepped.first + stepped.second + stepped.stored) as u64
-}
-
-#[no_mangle]
-pub unsafe extern "C" fn plain_measure_list(
-    own: *const u8,
-    own_size: usize,
-    wishes: *const u8,
-    wishes_size: usize,
-    field: *const u8,
-    field_size: usize,
-    out: *mut u8,
-    out_size: usize,
-    store: *mut u8,
-    store_size: usize,
-) -> u64 {
-    let (own, wishes, field) = (
-        slice(own, own_size),
-        slice(wishes, wishes_size),
-        slice(field, field_size),
-    );
-    hear(
-        Phase::ListsD,
-        own,
-        wishes,
-        field,
-        slice_mut(out, out_size),
-        slice_mut(store, store_size),
-    )
-}
-
-#[no_mangle]
-pub unsafe extern "C" fn plain_measure_mode(
-    own: *const u8,
-    own_size: usize,
-    wishes: *const u8,
-    wishes_size: usize,
-    field: *const u8,
-    field_size: usize,
-    out: *mut u8,
-    out_size: usize,
-    store: *mut u8,
-    store_size: usize,
-) -> u64 {
-    let (own, wishes, field) = (
-        slice(own, own_size),
-        slice(wishes, wishes_size),
-        slice(field, field_size),
-    );
-    hear(
-        Phase::AskedD,
-        own,
-        wishes,
-        field,
-        slice_mut(out, out_size),
-        slice_mut(store, store_size),
-    )
 }

@@ -23,11 +23,12 @@ impl<'a> Iterator for Wishes<'a> {
     type Item = (u8, &'a [u8]);
 
     fn next(&mut self) -> Option<Self::Item> {
-        let (&ready, rest) = self.rest.split_first()?;
-        let (&size, rest) = rest.split_first()?;
-        let field = rest.get(..usize::from(size))?;
-        self.rest = &rest[field.len()..];
-        Some((ready, field))
+        let &[ready, size, ..] = self.rest else {
+            return None;
+        };
+        let (record, rest) = self.rest.split_at_checked(2 + usize::from(size))?;
+        self.rest = rest;
+        Some((ready, &record[2..]))
     }
 }
 
@@ -143,7 +144,7 @@ pub fn check_tables(own: &[u8], run: &[u8]) -> Result<(), Fault> {
         if ready > 1 || good_field(field).unwrap_or(0) == 0 {
             return Err(Fault::BadWishes);
         }
-        inside = inside && lies_within(field, own);
+        inside &= lies_within(field, own);
     }
     if !wishes.rest.is_empty() {
         return Err(Fault::BadWishes);
@@ -155,11 +156,12 @@ pub fn check_tables(own: &[u8], run: &[u8]) -> Result<(), Fault> {
     }
 }
 
-/// The number of the first ready wish that is common, and its field. All lie in the own table already.
-pub fn choose<'a>(run: &'a [u8], far: &[u8]) -> Option<(u8, &'a [u8])> {
+/// The number of the first ready wish that is common, or with no far list of the first ready one, and its field. All lie in the own
+/// table already.
+pub fn choose<'a>(run: &'a [u8], far: Option<&[u8]>) -> Option<(u8, &'a [u8])> {
     let mut wishes = (1..).zip(Wishes { rest: run });
     wishes.find_map(|(number, (ready, field))| {
-        (ready == 1 && lies_within(field, far)).then_some((number, field))
+        (ready == 1 && far.is_none_or(|far| lies_within(field, far))).then_some((number, field))
     })
 }
 

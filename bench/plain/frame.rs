@@ -10,7 +10,7 @@ const MOST_BITS: usize = 704;
 
 #[derive(Clone, Copy)]
 pub enum Refusal {
-    NoRoom = 1,
+    BadLent = 1,
     BadFlags = 2,
     SplitOctet = 3,
     TooShort = 4,
@@ -91,7 +91,7 @@ pub fn write(
     out: &mut [u8],
 ) -> Result<usize, Refusal> {
     if out.len() < FRAME_ROOM {
-        return Err(Refusal::NoRoom);
+        return Err(Refusal::BadLent);
     }
     if !(1..=MOST_INFORMATION).contains(&information.len()) {
         return Err(Refusal::BadLength);
@@ -174,7 +174,7 @@ fn read_content(
 /// Reads the frame that the first `count` bits of a run are, and gives its number of octets of information.
 pub fn read(run: &[u8], count: usize, out: &mut [u8]) -> Result<usize, Refusal> {
     if count > MOST_BITS || (count + 7) / 8 > run.len() || out.len() < MOST_INFORMATION {
-        return Err(Refusal::NoRoom);
+        return Err(Refusal::BadLent);
     }
     let whole = &run[..count / 8];
     let run = &run[..(count + 7) / 8];

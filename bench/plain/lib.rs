@@ -11,6 +11,7 @@ mod message;
 mod names;
 mod rewrite;
 mod station;
+mod station_border;
 mod tree;
 mod writer;
 

@@ -6,11 +6,18 @@ pub const MOST_OCTETS: usize = 64;
 pub const LIST_ROOM: usize = 448;
 
 pub const MS: u8 = 1;
+pub const CL: u8 = 2;
 pub const CLR: u8 = 3;
+pub const ACK_1: u8 = 4;
+pub const ACK_2: u8 = 5;
+pub const NAK_1: u8 = 8;
+pub const NAK_2: u8 = 9;
+pub const NAK_3: u8 = 10;
+pub const NAK_4: u8 = 11;
 
 #[derive(Clone, Copy)]
 pub enum Refusal {
-    SmallList = 1,
+    BadLent = 1,
     BadSize = 2,
     UnknownType = 3,
     Malformed = 4,
@@ -24,7 +31,7 @@ pub struct Parts {
 }
 
 pub fn is_known(kind: u8) -> bool {
-    matches!(kind, 1..=5 | 8..=11)
+    matches!(kind, MS..=ACK_2 | NAK_1..=NAK_4)
 }
 
 /// Whether a message with fields announces NS.

@@ -149,10 +149,10 @@ pub fn store(message: &[u8], standard: usize, keep: Keep, store: &mut [u8]) -> u
     out.size
 }
 
-/// Strikes a message, and gives its number of octets. A small output has the number of a small list.
+/// Strikes a message, and gives its number of octets.
 pub fn strike(message: &[u8], out: &mut [u8]) -> Result<usize, message::Refusal> {
     if out.len() < MOST_OCTETS {
-        return Err(message::Refusal::SmallList);
+        return Err(message::Refusal::BadLent);
     }
     let parts = message::check(message)?;
     out[0] = message[0];

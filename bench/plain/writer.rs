@@ -8,7 +8,7 @@ const NON_STANDARD: u32 = IDENTIFICATION + 7;
 
 #[derive(Clone, Copy)]
 pub enum Refusal {
-    SmallOutput = 1,
+    BadLent = 1,
     BadType = 3,
     BadCode = 5,
     NotAscending = 6,
@@ -134,7 +134,7 @@ pub fn write(
     out: &mut [u8],
 ) -> Result<usize, Refusal> {
     if out.len() < MOST_OCTETS {
-        return Err(Refusal::SmallOutput);
+        return Err(Refusal::BadLent);
     }
     if !is_known(kind) || revision > 15 {
         return Err(Refusal::BadType);
