@@ -30,11 +30,10 @@ use Rattle.writer.specs.Writer as messageWriter
 use Rattle.writer.specs.declared.MessageWritten.{MessageWritten}
 use Rattle.names.specs.Contracts.{TellsNparPlaces, TellsSparPlaces}
 use Rattle.names.specs.declared.Keep.{Keep}
-use Rattle.good.specs.Contracts.{TellsGood}
 use Rattle.strike.specs.Rewriting.{Rewrites}
 use Rattle.strike.specs.Striking.{struckTold, Strikes}
 use Rattle.strike.specs.declared.Struck.{Struck}
-use Rattle.choice.specs.Contracts.{ChecksTables, ChoosesReady, ChoosesCommon, JudgesMode}
+use Rattle.choice.specs.Contracts.{TellsGood, ChecksTables, ChoosesReady, ChoosesCommon, JudgesMode}
 use Rattle.table.specs.Contracts.{TellsCarried, TellsNumber, TellsMode, TellsOver, TellsAct}
 use Rattle.table.specs.declared.Phase.{Phase}
 use Rattle.table.specs.declared.Kind.{Kind}

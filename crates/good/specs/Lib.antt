@@ -1,4 +1,3 @@
 pub mod Good
-pub mod Contracts
 pub mod Goodness
 pub mod Learned
