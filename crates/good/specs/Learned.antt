@@ -1,5 +1,4 @@
--- Inner: the names of the standard parameters as numbers, and those of an own table put block by block, as the code does it. One law says
--- that they are the positions of its codes.
+-- Inner: the names of an own table, put block by block as the code does it. One law says that they are the positions of its codes.
 -- Assumes nothing.
 use Prim.Native.Nat.{ℕ, zero, suc, _+_, _-_, _*_, _%_, _^_}
 use mathlib.Core.List.{List, [], _∷_}
