@@ -22,8 +22,8 @@
 #define STACK_OCTETS (256 * 1024)
 
 /* A slice is a pointer and a length. */
-typedef struct kamvezhor_frame read_frame(const uint8_t *, size_t, size_t, uint8_t *, size_t);
-typedef struct kamvezhor_frame write_frame(const uint8_t *, size_t, size_t, size_t, uint8_t *, size_t);
+typedef struct kamvezhor_frame_read read_frame(const uint8_t *, size_t, size_t, uint8_t *, size_t);
+typedef struct kamvezhor_frame_written write_frame(const uint8_t *, size_t, size_t, size_t, uint8_t *, size_t);
 typedef struct kamvezhor_message read_message(const uint8_t *, size_t, uint8_t *, size_t);
 typedef uint64_t read_list(const uint8_t *, size_t, uint32_t *, size_t);
 typedef uint64_t write_message(uint8_t, uint8_t, const uint32_t *, size_t, const uint8_t *, size_t, uint8_t *, size_t);
@@ -73,10 +73,16 @@ struct result {
 
 typedef void job(const struct input *in, struct result *r);
 
-static void tell_frame(struct result *r, struct kamvezhor_frame f)
+static void tell_read(struct result *r, struct kamvezhor_frame_read f)
 {
     r->answer[0] = f.refusal;
-    r->answer[1] = f.count;
+    r->answer[1] = f.octets;
+}
+
+static void tell_written(struct result *r, struct kamvezhor_frame_written f)
+{
+    r->answer[0] = f.refusal;
+    r->answer[1] = f.bits;
 }
 
 static void tell_message(struct result *r, struct kamvezhor_message m)
@@ -93,11 +99,11 @@ static void tell_message(struct result *r, struct kamvezhor_message m)
 #define JOBS(us, exported)                                                                                                           \
     static void us##_frame_reader(const struct input *in, struct result *r)                                                          \
     {                                                                                                                                \
-        tell_frame(r, exported##_read_frame(in->octets, in->size, in->bits, r->out, in->room));                                      \
+        tell_read(r, exported##_read_frame(in->octets, in->size, in->bits, r->out, in->room));                                       \
     }                                                                                                                                \
     static void us##_frame_writer(const struct input *in, struct result *r)                                                          \
     {                                                                                                                                \
-        tell_frame(r, exported##_write_frame(in->octets, in->size, in->opening, in->closing, r->out, in->room));                     \
+        tell_written(r, exported##_write_frame(in->octets, in->size, in->opening, in->closing, r->out, in->room));                   \
     }                                                                                                                                \
     static void us##_octet_reader(const struct input *in, struct result *r)                                                          \
     {                                                                                                                                \

@@ -8,9 +8,15 @@ use core::slice::{from_raw_parts as slice, from_raw_parts_mut as slice_mut};
 const REFUSED: u64 = 1000;
 
 #[repr(C)]
-pub struct FrameAnswer {
+pub struct FrameReadAnswer {
     refusal: u32,
-    count: u32,
+    octets: u32,
+}
+
+#[repr(C)]
+pub struct FrameWriteAnswer {
+    refusal: u32,
+    bits: u32,
 }
 
 #[repr(C)]
@@ -24,19 +30,6 @@ pub struct MessageAnswer {
     ns_length: u32,
 }
 
-fn frame_answer(result: Result<usize, frame::Refusal>) -> FrameAnswer {
-    match result {
-        Ok(count) => FrameAnswer {
-            refusal: 0,
-            count: count as u32,
-        },
-        Err(refusal) => FrameAnswer {
-            refusal: refusal as u32,
-            count: 0,
-        },
-    }
-}
-
 #[no_mangle]
 pub unsafe extern "C" fn plain_read_frame(
     run: *const u8,
@@ -44,12 +37,17 @@ pub unsafe extern "C" fn plain_read_frame(
     bits: usize,
     out: *mut u8,
     out_size: usize,
-) -> FrameAnswer {
-    frame_answer(frame::read(
-        slice(run, run_size),
-        bits,
-        slice_mut(out, out_size),
-    ))
+) -> FrameReadAnswer {
+    match frame::read(slice(run, run_size), bits, slice_mut(out, out_size)) {
+        Ok(octets) => FrameReadAnswer {
+            refusal: 0,
+            octets: octets as u32,
+        },
+        Err(refusal) => FrameReadAnswer {
+            refusal: refusal as u32,
+            octets: 0,
+        },
+    }
 }
 
 #[no_mangle]
@@ -60,13 +58,22 @@ pub unsafe extern "C" fn plain_write_frame(
     closing: usize,
     out: *mut u8,
     out_size: usize,
-) -> FrameAnswer {
-    frame_answer(frame::write(
+) -> FrameWriteAnswer {
+    match frame::write(
         slice(information, size),
         opening,
         closing,
         slice_mut(out, out_size),
-    ))
+    ) {
+        Ok(bits) => FrameWriteAnswer {
+            refusal: 0,
+            bits: bits as u32,
+        },
+        Err(refusal) => FrameWriteAnswer {
+            refusal: refusal as u32,
+            bits: 0,
+        },
+    }
 }
 
 #[no_mangle]

@@ -93,16 +93,27 @@ static int is_same(struct buffer a, struct buffer b)
 }
 
 /* The value of a line: what was counted and the octets, or the refusal alone. */
-static void print_frame(const char *name, struct kamvezhor_frame got, const char *counted, const uint8_t *octets, size_t size)
+static void print_octets(const char *name, uint32_t refusal, uint32_t count, const char *counted, const uint8_t *octets,
+                         size_t size)
 {
-    if (got.refusal != KAMVEZHOR_FRAME_OK) {
-        printf("%s=refusal %u\n", name, (unsigned)got.refusal);
+    if (refusal != 0) {
+        printf("%s=refusal %u\n", name, (unsigned)refusal);
         return;
     }
-    printf("%s=%u %s:", name, (unsigned)got.count, counted);
+    printf("%s=%u %s:", name, (unsigned)count, counted);
     for (size_t i = 0; i < size; i++)
         printf(" %02X", octets[i]);
     printf("\n");
+}
+
+static void print_read(const char *name, struct kamvezhor_frame_read got, const uint8_t *information)
+{
+    print_octets(name, got.refusal, got.octets, "octets", information, got.octets);
+}
+
+static void print_written(const char *name, struct kamvezhor_frame_written made, const uint8_t *frame)
+{
+    print_octets(name, made.refusal, made.bits, "bits", frame, (made.bits + 7) / 8);
 }
 
 /* The refusals that came, a bit for each, by the function that gave them. */
@@ -119,33 +130,33 @@ static void print_refusals(const char *name, uint32_t came)
 
 /* The three functions. Each wrapper lends copies of exactly the sizes told, and checks what holds of every call. */
 
-static struct kamvezhor_frame read_frame(const char *name, struct buffer run, size_t bits, struct buffer out)
+static struct kamvezhor_frame_read read_frame(const char *name, struct buffer run, size_t bits, struct buffer out)
 {
     struct buffer lent = copy_of(run.octets, run.size);
-    struct kamvezhor_frame got = kamvezhor_read_frame(lent.octets, lent.size, bits, out.octets, out.size);
+    struct kamvezhor_frame_read got = kamvezhor_read_frame(lent.octets, lent.size, bits, out.octets, out.size);
 
     must(is_same(lent, run), name, "the run was written to");
-    must(is_untouched(out, got.count), name, "the rest of the output was written to");
-    must((got.refusal == KAMVEZHOR_FRAME_OK) == (got.count > 0), name, "count with a refusal, or none without");
-    must(got.count <= KAMVEZHOR_INFORMATION_ROOM, name, "count");
+    must(is_untouched(out, got.octets), name, "the rest of the output was written to");
+    must((got.refusal == KAMVEZHOR_READ_OK) == (got.octets > 0), name, "octets with a refusal, or none without");
+    must(got.octets <= KAMVEZHOR_INFORMATION_ROOM, name, "octets");
     of_reader |= 1u << got.refusal;
     give_back(lent);
     return got;
 }
 
-static struct kamvezhor_frame write_frame(const char *name, struct buffer information, size_t opening, size_t closing,
-                                          struct buffer out)
+static struct kamvezhor_frame_written write_frame(const char *name, struct buffer information, size_t opening, size_t closing,
+                                                  struct buffer out)
 {
     struct buffer lent = copy_of(information.octets, information.size);
-    struct kamvezhor_frame made = kamvezhor_write_frame(lent.octets, lent.size, opening, closing, out.octets, out.size);
-    size_t octets = (made.count + 7) / 8;
+    struct kamvezhor_frame_written made = kamvezhor_write_frame(lent.octets, lent.size, opening, closing, out.octets, out.size);
+    size_t octets = (made.bits + 7) / 8;
 
     must(is_same(lent, information), name, "the information was written to");
     must(is_untouched(out, octets), name, "the rest of the output was written to");
-    must((made.refusal == KAMVEZHOR_FRAME_OK) == (made.count > 0), name, "count with a refusal, or none without");
-    must(octets <= KAMVEZHOR_FRAME_ROOM, name, "count");
-    if (made.count % 8 != 0)
-        must(out.octets[octets - 1] >> made.count % 8 == 0, name, "an unused bit is set");
+    must((made.refusal == KAMVEZHOR_WRITE_OK) == (made.bits > 0), name, "bits with a refusal, or none without");
+    must(octets <= KAMVEZHOR_FRAME_ROOM, name, "bits");
+    if (made.bits % 8 != 0)
+        must(out.octets[octets - 1] >> made.bits % 8 == 0, name, "an unused bit is set");
     of_writer |= 1u << made.refusal;
     give_back(lent);
     return made;
@@ -176,38 +187,38 @@ static const struct {
     size_t room;
     uint32_t due;
 } runs[] = {
-    {"read 00", "7E 7E 00 78 F0 7E", 48, 64, KAMVEZHOR_FRAME_OK},
-    {"read FF", "7E 7E DF 01 BE FB 01", 50, 64, KAMVEZHOR_FRAME_OK},
-    {"read FF FF", "7E 7E DF F7 7D DF B7 1F", 62, 64, KAMVEZHOR_FRAME_OK},
-    {"read 5 and 3 flags", "7E*5 00 78 F0 7E*3", 88, 64, KAMVEZHOR_FRAME_OK},
-    {"read into more room", "7E 7E 00 78 F0 7E", 48, 100, KAMVEZHOR_FRAME_OK},
-    {"read the bits alone", "7E 7E 00 78 F0 7E FF FF", 48, 64, KAMVEZHOR_FRAME_OK},
-    {"read five ones and their zero at the end", "7E 7E 88 38 F8 FC 00", 49, 64, KAMVEZHOR_FRAME_OK},
-    {"read 705 bits", "7E*89", 705, 64, KAMVEZHOR_FRAME_NO_ROOM},
-    {"read one bit above the run", "7E 7E 00 78 F0 7E", 49, 64, KAMVEZHOR_FRAME_NO_ROOM},
-    {"read one bit of no run", "", 1, 64, KAMVEZHOR_FRAME_NO_ROOM},
-    {"read all the bits of a size_t", "7E 7E 00 78 F0 7E", SIZE_MAX, 64, KAMVEZHOR_FRAME_NO_ROOM},
-    {"read into 63 octets", "7E 7E 00 78 F0 7E", 48, 63, KAMVEZHOR_FRAME_NO_ROOM},
-    {"read into no octet", "7E 7E 00 78 F0 7E", 48, 0, KAMVEZHOR_FRAME_NO_ROOM},
-    {"read bad flags into 63 octets", "00*6", 48, 63, KAMVEZHOR_FRAME_NO_ROOM},
-    {"read no run", "", 0, 64, KAMVEZHOR_FRAME_BAD_FLAGS},
-    {"read 704 bits without a flag", "00*88", 704, 64, KAMVEZHOR_FRAME_BAD_FLAGS},
-    {"read 1 opening flag", "7E 00 78 F0 7E", 40, 64, KAMVEZHOR_FRAME_BAD_FLAGS},
-    {"read 6 opening flags", "7E*6 00 78 F0 7E", 80, 64, KAMVEZHOR_FRAME_BAD_FLAGS},
-    {"read flags alone", "7E*4", 32, 64, KAMVEZHOR_FRAME_BAD_FLAGS},
-    {"read no closing flag", "7E 7E 00 78 F0", 40, 64, KAMVEZHOR_FRAME_BAD_FLAGS},
-    {"read 4 closing flags", "7E 7E 00 78 F0 7E*4", 72, 64, KAMVEZHOR_FRAME_BAD_FLAGS},
-    {"read half a closing flag", "7E 7E 00 78 F0 7E", 47, 64, KAMVEZHOR_FRAME_BAD_FLAGS},
-    {"read six ones inside", "7E 7E FF 00 00 7E", 48, 64, KAMVEZHOR_FRAME_BAD_FLAGS},
-    {"read five ones without their zero at the end", "7E 7E 88 38 F8 7E", 48, 64, KAMVEZHOR_FRAME_BAD_FLAGS},
-    {"read a bit left over", "7E 7E 00 78 F0 7E 00", 49, 64, KAMVEZHOR_FRAME_BAD_FLAGS},
-    {"read 25 bits inside", "7E 7E 00 78 F0 FC 00", 49, 64, KAMVEZHOR_FRAME_SPLIT_OCTET},
-    {"read 1 bit inside", "7E 7E FC 00", 25, 64, KAMVEZHOR_FRAME_SPLIT_OCTET},
-    {"read 2 octets inside", "7E 7E 78 F0 7E", 40, 64, KAMVEZHOR_FRAME_TOO_SHORT},
-    {"read 67 octets inside", "7E 7E 00*67 7E", 560, 64, KAMVEZHOR_FRAME_TOO_LONG},
-    {"read 66 octets inside", "7E 7E 00*66 7E", 552, 64, KAMVEZHOR_FRAME_WRONG_FCS},
-    {"read a wrong FCS", "7E 7E 01 78 F0 7E", 48, 64, KAMVEZHOR_FRAME_WRONG_FCS},
-    {"read FCS octets swapped", "7E 7E 00 F0 78 7E", 48, 64, KAMVEZHOR_FRAME_WRONG_FCS},
+    {"read 00", "7E 7E 00 78 F0 7E", 48, 64, KAMVEZHOR_READ_OK},
+    {"read FF", "7E 7E DF 01 BE FB 01", 50, 64, KAMVEZHOR_READ_OK},
+    {"read FF FF", "7E 7E DF F7 7D DF B7 1F", 62, 64, KAMVEZHOR_READ_OK},
+    {"read 5 and 3 flags", "7E*5 00 78 F0 7E*3", 88, 64, KAMVEZHOR_READ_OK},
+    {"read into more room", "7E 7E 00 78 F0 7E", 48, 100, KAMVEZHOR_READ_OK},
+    {"read the bits alone", "7E 7E 00 78 F0 7E FF FF", 48, 64, KAMVEZHOR_READ_OK},
+    {"read five ones and their zero at the end", "7E 7E 88 38 F8 FC 00", 49, 64, KAMVEZHOR_READ_OK},
+    {"read 705 bits", "7E*89", 705, 64, KAMVEZHOR_READ_COUNT_OR_ROOM},
+    {"read one bit above the run", "7E 7E 00 78 F0 7E", 49, 64, KAMVEZHOR_READ_COUNT_OR_ROOM},
+    {"read one bit of no run", "", 1, 64, KAMVEZHOR_READ_COUNT_OR_ROOM},
+    {"read all the bits of a size_t", "7E 7E 00 78 F0 7E", SIZE_MAX, 64, KAMVEZHOR_READ_COUNT_OR_ROOM},
+    {"read into 63 octets", "7E 7E 00 78 F0 7E", 48, 63, KAMVEZHOR_READ_COUNT_OR_ROOM},
+    {"read into no octet", "7E 7E 00 78 F0 7E", 48, 0, KAMVEZHOR_READ_COUNT_OR_ROOM},
+    {"read bad flags into 63 octets", "00*6", 48, 63, KAMVEZHOR_READ_COUNT_OR_ROOM},
+    {"read no run", "", 0, 64, KAMVEZHOR_READ_BAD_FLAGS},
+    {"read 704 bits without a flag", "00*88", 704, 64, KAMVEZHOR_READ_BAD_FLAGS},
+    {"read 1 opening flag", "7E 00 78 F0 7E", 40, 64, KAMVEZHOR_READ_BAD_FLAGS},
+    {"read 6 opening flags", "7E*6 00 78 F0 7E", 80, 64, KAMVEZHOR_READ_BAD_FLAGS},
+    {"read flags alone", "7E*4", 32, 64, KAMVEZHOR_READ_BAD_FLAGS},
+    {"read no closing flag", "7E 7E 00 78 F0", 40, 64, KAMVEZHOR_READ_BAD_FLAGS},
+    {"read 4 closing flags", "7E 7E 00 78 F0 7E*4", 72, 64, KAMVEZHOR_READ_BAD_FLAGS},
+    {"read half a closing flag", "7E 7E 00 78 F0 7E", 47, 64, KAMVEZHOR_READ_BAD_FLAGS},
+    {"read six ones inside", "7E 7E FF 00 00 7E", 48, 64, KAMVEZHOR_READ_BAD_FLAGS},
+    {"read five ones without their zero at the end", "7E 7E 88 38 F8 7E", 48, 64, KAMVEZHOR_READ_BAD_FLAGS},
+    {"read a bit left over", "7E 7E 00 78 F0 7E 00", 49, 64, KAMVEZHOR_READ_BAD_FLAGS},
+    {"read 25 bits inside", "7E 7E 00 78 F0 FC 00", 49, 64, KAMVEZHOR_READ_SPLIT_OCTET},
+    {"read 1 bit inside", "7E 7E FC 00", 25, 64, KAMVEZHOR_READ_SPLIT_OCTET},
+    {"read 2 octets inside", "7E 7E 78 F0 7E", 40, 64, KAMVEZHOR_READ_TOO_SHORT},
+    {"read 67 octets inside", "7E 7E 00*67 7E", 560, 64, KAMVEZHOR_READ_TOO_LONG},
+    {"read 66 octets inside", "7E 7E 00*66 7E", 552, 64, KAMVEZHOR_READ_WRONG_FCS},
+    {"read a wrong FCS", "7E 7E 01 78 F0 7E", 48, 64, KAMVEZHOR_READ_WRONG_FCS},
+    {"read FCS octets swapped", "7E 7E 00 F0 78 7E", 48, 64, KAMVEZHOR_READ_WRONG_FCS},
 };
 
 static void read_runs(void)
@@ -215,10 +226,10 @@ static void read_runs(void)
     for (size_t i = 0; i < sizeof runs / sizeof runs[0]; i++) {
         struct buffer run = octets_of(runs[i].run);
         struct buffer out = lend(runs[i].room);
-        struct kamvezhor_frame got = read_frame(runs[i].name, run, runs[i].bits, out);
+        struct kamvezhor_frame_read got = read_frame(runs[i].name, run, runs[i].bits, out);
 
         must(got.refusal == runs[i].due, runs[i].name, "another refusal was due");
-        print_frame(runs[i].name, got, "octets", out.octets, got.count);
+        print_read(runs[i].name, got, out.octets);
         give_back(run);
         give_back(out);
     }
@@ -233,24 +244,24 @@ static const struct {
     size_t room;
     uint32_t due;
 } fields[] = {
-    {"write 00", "00", 2, 1, 88, KAMVEZHOR_FRAME_OK},
-    {"write FF", "FF", 2, 1, 88, KAMVEZHOR_FRAME_OK},
-    {"write FF FF", "FF FF", 2, 1, 88, KAMVEZHOR_FRAME_OK},
-    {"write 5 and 3 flags", "00", 5, 3, 88, KAMVEZHOR_FRAME_OK},
-    {"write into more room", "00", 2, 1, 200, KAMVEZHOR_FRAME_OK},
-    {"write five ones and their zero at the end", "88", 2, 1, 88, KAMVEZHOR_FRAME_OK},
-    {"write 64 octets", "FF*64", 5, 3, 88, KAMVEZHOR_FRAME_OK},
-    {"write into 87 octets", "00", 2, 1, 87, KAMVEZHOR_FRAME_NO_ROOM},
-    {"write into no octet", "00", 2, 1, 0, KAMVEZHOR_FRAME_NO_ROOM},
-    {"write nothing, no flags, no room", "", 0, 0, 87, KAMVEZHOR_FRAME_NO_ROOM},
-    {"write nothing", "", 2, 1, 88, KAMVEZHOR_FRAME_BAD_LENGTH},
-    {"write 65 octets", "00*65", 2, 1, 88, KAMVEZHOR_FRAME_BAD_LENGTH},
-    {"write 65 octets and no flags", "00*65", 0, 0, 88, KAMVEZHOR_FRAME_BAD_LENGTH},
-    {"write 1 opening flag", "00", 1, 1, 88, KAMVEZHOR_FRAME_BAD_FLAG_COUNT},
-    {"write 6 opening flags", "00", 6, 1, 88, KAMVEZHOR_FRAME_BAD_FLAG_COUNT},
-    {"write no closing flag", "00", 2, 0, 88, KAMVEZHOR_FRAME_BAD_FLAG_COUNT},
-    {"write 4 closing flags", "00", 2, 4, 88, KAMVEZHOR_FRAME_BAD_FLAG_COUNT},
-    {"write all the flags of a size_t", "00", SIZE_MAX, SIZE_MAX, 88, KAMVEZHOR_FRAME_BAD_FLAG_COUNT},
+    {"write 00", "00", 2, 1, 88, KAMVEZHOR_WRITE_OK},
+    {"write FF", "FF", 2, 1, 88, KAMVEZHOR_WRITE_OK},
+    {"write FF FF", "FF FF", 2, 1, 88, KAMVEZHOR_WRITE_OK},
+    {"write 5 and 3 flags", "00", 5, 3, 88, KAMVEZHOR_WRITE_OK},
+    {"write into more room", "00", 2, 1, 200, KAMVEZHOR_WRITE_OK},
+    {"write five ones and their zero at the end", "88", 2, 1, 88, KAMVEZHOR_WRITE_OK},
+    {"write 64 octets", "FF*64", 5, 3, 88, KAMVEZHOR_WRITE_OK},
+    {"write into 87 octets", "00", 2, 1, 87, KAMVEZHOR_WRITE_SMALL_OUTPUT},
+    {"write into no octet", "00", 2, 1, 0, KAMVEZHOR_WRITE_SMALL_OUTPUT},
+    {"write nothing, no flags, no room", "", 0, 0, 87, KAMVEZHOR_WRITE_SMALL_OUTPUT},
+    {"write nothing", "", 2, 1, 88, KAMVEZHOR_WRITE_BAD_LENGTH},
+    {"write 65 octets", "00*65", 2, 1, 88, KAMVEZHOR_WRITE_BAD_LENGTH},
+    {"write 65 octets and no flags", "00*65", 0, 0, 88, KAMVEZHOR_WRITE_BAD_LENGTH},
+    {"write 1 opening flag", "00", 1, 1, 88, KAMVEZHOR_WRITE_BAD_FLAG_COUNT},
+    {"write 6 opening flags", "00", 6, 1, 88, KAMVEZHOR_WRITE_BAD_FLAG_COUNT},
+    {"write no closing flag", "00", 2, 0, 88, KAMVEZHOR_WRITE_BAD_FLAG_COUNT},
+    {"write 4 closing flags", "00", 2, 4, 88, KAMVEZHOR_WRITE_BAD_FLAG_COUNT},
+    {"write all the flags of a size_t", "00", SIZE_MAX, SIZE_MAX, 88, KAMVEZHOR_WRITE_BAD_FLAG_COUNT},
 };
 
 static void write_fields(void)
@@ -258,11 +269,11 @@ static void write_fields(void)
     for (size_t i = 0; i < sizeof fields / sizeof fields[0]; i++) {
         struct buffer information = octets_of(fields[i].information);
         struct buffer out = lend(fields[i].room);
-        struct kamvezhor_frame made =
+        struct kamvezhor_frame_written made =
             write_frame(fields[i].name, information, fields[i].opening, fields[i].closing, out);
 
         must(made.refusal == fields[i].due, fields[i].name, "another refusal was due");
-        print_frame(fields[i].name, made, "bits", out.octets, (made.count + 7) / 8);
+        print_written(fields[i].name, made, out.octets);
         give_back(information);
         give_back(out);
     }
@@ -373,6 +384,48 @@ static void read_at_odd_places(void)
     give_back(list);
 }
 
+/* NULL with 0 for each buffer, and for both: the refusal that no octets give, and nothing written. */
+
+static void print_due(const char *name, uint32_t refusal, uint32_t due)
+{
+    must(refusal == due, name, "another refusal was due");
+    printf("%s=refusal %u\n", name, (unsigned)refusal);
+}
+
+static void lend_null(void)
+{
+    struct buffer run = octets_of("7E 7E 00 78 F0 7E");
+    struct buffer message = octets_of("24");
+    struct buffer out = lend(KAMVEZHOR_LIST_ROOM);
+
+    print_due("NULL run", kamvezhor_read_frame(NULL, 0, 0, out.octets, out.size).refusal, KAMVEZHOR_READ_BAD_FLAGS);
+    print_due("NULL run, 1 bit", kamvezhor_read_frame(NULL, 0, 1, out.octets, out.size).refusal, KAMVEZHOR_READ_COUNT_OR_ROOM);
+    print_due("NULL output of the reader", kamvezhor_read_frame(run.octets, run.size, 48, NULL, 0).refusal,
+              KAMVEZHOR_READ_COUNT_OR_ROOM);
+    print_due("NULL run and output", kamvezhor_read_frame(NULL, 0, 0, NULL, 0).refusal, KAMVEZHOR_READ_COUNT_OR_ROOM);
+    print_due("NULL information", kamvezhor_write_frame(NULL, 0, 2, 1, out.octets, out.size).refusal, KAMVEZHOR_WRITE_BAD_LENGTH);
+    print_due("NULL output of the writer", kamvezhor_write_frame(message.octets, message.size, 2, 1, NULL, 0).refusal,
+              KAMVEZHOR_WRITE_SMALL_OUTPUT);
+    print_due("NULL information and output", kamvezhor_write_frame(NULL, 0, 2, 1, NULL, 0).refusal, KAMVEZHOR_WRITE_SMALL_OUTPUT);
+    print_due("NULL message", kamvezhor_read_message(NULL, 0, out.octets, out.size).refusal, KAMVEZHOR_MESSAGE_BAD_SIZE);
+    print_due("NULL list", kamvezhor_read_message(message.octets, message.size, NULL, 0).refusal, KAMVEZHOR_MESSAGE_SMALL_LIST);
+    print_due("NULL message and list", kamvezhor_read_message(NULL, 0, NULL, 0).refusal, KAMVEZHOR_MESSAGE_SMALL_LIST);
+    must(is_untouched(out, 0), "NULL", "the other buffer was written to");
+    give_back(run);
+    give_back(message);
+    give_back(out);
+}
+
+/* The version as numbers and as a string. */
+static void print_version(void)
+{
+    char numbers[40];
+
+    snprintf(numbers, sizeof numbers, "%d.%d.%d", KAMVEZHOR_VERSION_MAJOR, KAMVEZHOR_VERSION_MINOR, KAMVEZHOR_VERSION_PATCH);
+    must(strcmp(numbers, KAMVEZHOR_VERSION) == 0, "version", "its numbers are not its string");
+    printf("version=%s\n", KAMVEZHOR_VERSION);
+}
+
 /* A capability list as one modem sends it to another. */
 
 /* What the sender puts on the line: the example of the rules. */
@@ -380,11 +433,11 @@ static struct buffer send_list(uint32_t *bits)
 {
     struct buffer information = octets_of("22 81 80 80 A1 02 D0 C0");
     struct buffer frame = lend(KAMVEZHOR_FRAME_ROOM);
-    struct kamvezhor_frame made =
+    struct kamvezhor_frame_written made =
         write_frame("send", information, KAMVEZHOR_FEWEST_OPENING, KAMVEZHOR_FEWEST_CLOSING, frame);
 
-    print_frame("send", made, "bits", frame.octets, (made.count + 7) / 8);
-    *bits = made.count;
+    print_written("send", made, frame.octets);
+    *bits = made.bits;
     give_back(information);
     return frame;
 }
@@ -402,12 +455,12 @@ static int has_code(const uint8_t *list, uint32_t codes, uint32_t code)
 static void hear_list(struct buffer frame, uint32_t bits)
 {
     struct buffer out = lend(KAMVEZHOR_INFORMATION_ROOM);
-    struct kamvezhor_frame heard = read_frame("hear", frame, bits, out);
-    struct buffer message = copy_of(out.octets, heard.count);
+    struct kamvezhor_frame_read heard = read_frame("hear", frame, bits, out);
+    struct buffer message = copy_of(out.octets, heard.octets);
     struct buffer list = lend(KAMVEZHOR_LIST_ROOM);
     struct kamvezhor_message got = read_message("hear", message, list);
 
-    print_frame("hear", heard, "octets", out.octets, heard.count);
+    print_read("hear", heard, out.octets);
     print_message("hear the message", got, list.octets);
     printf("it is a CL=%d\n", got.type == KAMVEZHOR_CL);
     printf("it offers V.8=%d\n", has_code(list.octets, got.codes, KAMVEZHOR_CODE(1, 0, 0, 1)));
@@ -427,7 +480,7 @@ static void hear_wrong(struct buffer frame, uint32_t bits)
         struct buffer out = lend(KAMVEZHOR_INFORMATION_ROOM);
 
         frame.octets[i / 8] ^= (uint8_t)(1u << i % 8);
-        refused += read_frame("hear a wrong bit", frame, bits, out).refusal != KAMVEZHOR_FRAME_OK;
+        refused += read_frame("hear a wrong bit", frame, bits, out).refusal != KAMVEZHOR_READ_OK;
         frame.octets[i / 8] ^= (uint8_t)(1u << i % 8);
         give_back(out);
     }
@@ -439,9 +492,9 @@ static uint32_t there_and_back(struct buffer information, size_t opening, size_t
 {
     struct buffer frame = lend(KAMVEZHOR_FRAME_ROOM);
     struct buffer out = lend(KAMVEZHOR_INFORMATION_ROOM);
-    struct kamvezhor_frame made = write_frame("there", information, opening, closing, frame);
-    struct kamvezhor_frame got = read_frame("back", frame, made.count, out);
-    int same = got.count == information.size && memcmp(out.octets, information.octets, information.size) == 0;
+    struct kamvezhor_frame_written made = write_frame("there", information, opening, closing, frame);
+    struct kamvezhor_frame_read got = read_frame("back", frame, made.bits, out);
+    int same = got.octets == information.size && memcmp(out.octets, information.octets, information.size) == 0;
 
     must(same, "there and back", "other octets came back");
     give_back(frame);
@@ -468,9 +521,11 @@ static void all_there_and_back(void)
 
 int main(void)
 {
+    struct buffer frame;
     uint32_t bits;
-    struct buffer frame = send_list(&bits);
 
+    print_version();
+    frame = send_list(&bits);
     hear_list(frame, bits);
     hear_wrong(frame, bits);
     give_back(frame);
@@ -480,6 +535,7 @@ int main(void)
     read_messages();
     read_longest();
     read_at_odd_places();
+    lend_null();
     all_there_and_back();
     print_refusals("frame writer", of_writer);
     print_refusals("frame reader", of_reader);

@@ -15,15 +15,16 @@ use Rattle.frame.specs.declared.FrameRead.{FrameRead}
 use Rattle.frame.specs.declared.FrameWritten.{FrameWritten}
 use Rattle.exact.proofs.Exact.{accepted-is-frame}
 use Rattle.frame.proofs.Zeros.{frame-length}
-use Rattle.chip.specs.Answers.{frameAnswer, ReadsFrame, WritesFrame}
-use Rattle.chip.specs.declared.FrameAnswer.{FrameAnswer}
+use Rattle.chip.specs.Answers.{frameReadAnswer, frameWriteAnswer, ReadsFrame, WritesFrame}
+use Rattle.chip.specs.declared.FrameReadAnswer.{FrameReadAnswer}
+use Rattle.chip.specs.declared.FrameWriteAnswer.{FrameWriteAnswer}
 
 -- ---- the reader
 
 module _ (run : List ℕ) (count : ℕ) {out₀ : List ℕ} {r : FrameRead} {out₁ : List ℕ} (t : Reads (readFrame run count (length out₀)) out₀ r out₁) (v : FrameRead) (e : r ≡ v) where
-  -- an answer, told as a number and a count
-  pub read-told : (a : FrameAnswer) → a ≡ frameAnswer (readTold v) → ReadsFrame run count out₀ a out₁
-  read-told a h = record { reply = h ∙ ap (λ (w : FrameRead). frameAnswer (readTold w)) (sym e) ∙ ap frameAnswer (t .reply); output = t .output }
+  -- an answer, told as a number and octets
+  pub read-told : (a : FrameReadAnswer) → a ≡ frameReadAnswer (readTold v) → ReadsFrame run count out₀ a out₁
+  read-told a h = record { reply = h ∙ ap (λ (w : FrameRead). frameReadAnswer (readTold w)) (sym e) ∙ ap frameReadAnswer (t .reply); output = t .output }
 
   -- at most 64 octets
   pub octets-few : readTold v .count ≤ mostInformation
@@ -54,9 +55,9 @@ sent-few info opening closing room =
     omega (arith, frame-length info opening closing (ltb-false mostInformation (length info) l) (ltb-false mostOpening opening o) (ltb-false mostClosing closing m)))))))))
 
 module _ (info : List ℕ) (opening closing : ℕ) {out₀ : List ℕ} {r : FrameWritten} {out₁ : List ℕ} (t : Writes (writeFrame info opening closing (length out₀)) out₀ r out₁) (v : FrameWritten) (e : r ≡ v) where
-  -- an answer, told as a number and a count
-  pub write-told : (a : FrameAnswer) → a ≡ frameAnswer (writeTold v) → WritesFrame info opening closing out₀ a out₁
-  write-told a h = record { reply = h ∙ ap (λ (w : FrameWritten). frameAnswer (writeTold w)) (sym e) ∙ ap frameAnswer (t .reply); output = t .output }
+  -- an answer, told as a number and bits
+  pub write-told : (a : FrameWriteAnswer) → a ≡ frameWriteAnswer (writeTold v) → WritesFrame info opening closing out₀ a out₁
+  write-told a h = record { reply = h ∙ ap (λ (w : FrameWritten). frameWriteAnswer (writeTold w)) (sym e) ∙ ap frameWriteAnswer (t .reply); output = t .output }
 
   -- at most 704 bits
   pub bits-few : writeTold v .count ≤ mostBits

@@ -15,21 +15,22 @@ use Rattle.fill.proofs.Stored.{fours-length}
 use Rattle.message.specs.Reader.{listRoom, messageCodes, Reading, refused, accepted, readMessage, readTold, readReply, codesRead, Reads, roomOf}
 use Rattle.message.specs.declared.MessageRead.{MessageRead}
 use Rattle.message.proofs.Reading.{room-enough}
-use Rattle.chip.specs.Answers.{frameAnswer, ReadsFrame, WritesFrame, messageAnswer, ReadsMessage}
-use Rattle.chip.specs.declared.FrameAnswer.{FrameAnswer}
+use Rattle.chip.specs.Answers.{frameReadAnswer, frameWriteAnswer, ReadsFrame, WritesFrame, messageAnswer, ReadsMessage}
+use Rattle.chip.specs.declared.FrameReadAnswer.{FrameReadAnswer}
+use Rattle.chip.specs.declared.FrameWriteAnswer.{FrameWriteAnswer}
 use Rattle.chip.specs.declared.MessageAnswer.{MessageAnswer}
 
 -- the frame reader
-pub frame-read-same : (run : List ℕ) (count : ℕ) (out₀ : List ℕ) (r : FrameRead) (r′ : FrameAnswer) (out₁ out₁′ : List ℕ)
+pub frame-read-same : (run : List ℕ) (count : ℕ) (out₀ : List ℕ) (r : FrameRead) (r′ : FrameReadAnswer) (out₁ out₁′ : List ℕ)
     → reader.Reads (reader.readFrame run count (length out₀)) out₀ r out₁ → ReadsFrame run count out₀ r′ out₁′
-    → (r′ ≡ frameAnswer (reader.readTold r)) × (out₁′ ≡ out₁)
-frame-read-same run count out₀ r r′ out₁ out₁′ a b = (b .reply ∙ ap frameAnswer (sym (a .reply)), b .output ∙ sym (a .output))
+    → (r′ ≡ frameReadAnswer (reader.readTold r)) × (out₁′ ≡ out₁)
+frame-read-same run count out₀ r r′ out₁ out₁′ a b = (b .reply ∙ ap frameReadAnswer (sym (a .reply)), b .output ∙ sym (a .output))
 
 -- the frame writer
-pub frame-write-same : (info : List ℕ) (opening closing : ℕ) (out₀ : List ℕ) (r : FrameWritten) (r′ : FrameAnswer) (out₁ out₁′ : List ℕ)
+pub frame-write-same : (info : List ℕ) (opening closing : ℕ) (out₀ : List ℕ) (r : FrameWritten) (r′ : FrameWriteAnswer) (out₁ out₁′ : List ℕ)
     → writer.Writes (writer.writeFrame info opening closing (length out₀)) out₀ r out₁ → WritesFrame info opening closing out₀ r′ out₁′
-    → (r′ ≡ frameAnswer (writer.writeTold r)) × (out₁′ ≡ out₁)
-frame-write-same info opening closing out₀ r r′ out₁ out₁′ a b = (b .reply ∙ ap frameAnswer (sym (a .reply)), b .output ∙ sym (a .output))
+    → (r′ ≡ frameWriteAnswer (writer.writeTold r)) × (out₁′ ≡ out₁)
+frame-write-same info opening closing out₀ r r′ out₁ out₁′ a b = (b .reply ∙ ap frameWriteAnswer (sym (a .reply)), b .output ∙ sym (a .output))
 
 -- the message reader, with lists that are large enough: as many codes are told, and the octets at the front are those of the numbers there
 pub message-read-same : (l list₀ octets₀ : List ℕ) (r : MessageRead) (r′ : MessageAnswer) (list₁ octets₁ : List ℕ) → listRoom ≤ length list₀

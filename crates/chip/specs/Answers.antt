@@ -11,21 +11,26 @@ use Rattle.frame.specs.Writer as writer
 use Rattle.tree.specs.Fields.{fours}
 use Rattle.message.specs.Reader.{readMessage, readReply, codesRead, roomOf}
 use Rattle.message.specs.Reader as message
-use Rattle.chip.specs.declared.FrameAnswer.{FrameAnswer}
+use Rattle.chip.specs.declared.FrameReadAnswer.{FrameReadAnswer}
+use Rattle.chip.specs.declared.FrameWriteAnswer.{FrameWriteAnswer}
 use Rattle.chip.specs.declared.MessageAnswer.{MessageAnswer}
 
--- the rules' number and value, as the firmware gets them
-abbrev pub frameAnswer : reader.Reply → FrameAnswer
-frameAnswer x = record { refusal = x .no; count = x .count }
+-- the rules' number and the octets read, as the firmware gets them
+abbrev pub frameReadAnswer : reader.Reply → FrameReadAnswer
+frameReadAnswer x = record { refusal = x .no; octets = x .count }
 
 -- the frame reader
-pub record ReadsFrame (run : List ℕ) (count : ℕ) (out₀ : List ℕ) (r : FrameAnswer) (out₁ : List ℕ) : Type 0 where
-  pub reply : r ≡ frameAnswer (reader.readReply (reader.readFrame run count (length out₀)))
+pub record ReadsFrame (run : List ℕ) (count : ℕ) (out₀ : List ℕ) (r : FrameReadAnswer) (out₁ : List ℕ) : Type 0 where
+  pub reply : r ≡ frameReadAnswer (reader.readReply (reader.readFrame run count (length out₀)))
   pub output : out₁ ≡ reader.readLeaves (reader.readFrame run count (length out₀)) out₀
 
+-- the rules' number and the bits written, as the firmware gets them
+abbrev pub frameWriteAnswer : reader.Reply → FrameWriteAnswer
+frameWriteAnswer x = record { refusal = x .no; bits = x .count }
+
 -- the frame writer
-pub record WritesFrame (info : List ℕ) (opening closing : ℕ) (out₀ : List ℕ) (r : FrameAnswer) (out₁ : List ℕ) : Type 0 where
-  pub reply : r ≡ frameAnswer (writer.writeReply (writer.writeFrame info opening closing (length out₀)))
+pub record WritesFrame (info : List ℕ) (opening closing : ℕ) (out₀ : List ℕ) (r : FrameWriteAnswer) (out₁ : List ℕ) : Type 0 where
+  pub reply : r ≡ frameWriteAnswer (writer.writeReply (writer.writeFrame info opening closing (length out₀)))
   pub output : out₁ ≡ writer.writeLeaves (writer.writeFrame info opening closing (length out₀)) out₀
 
 -- the rules' number and values, as the firmware gets them

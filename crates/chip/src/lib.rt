@@ -9,11 +9,18 @@ use frame::write_frame;
 use message::MessageRead;
 use message::read_octets;
 
-// What a frame function answers: the rules' number, 0 for success, and the number of octets read or of bits written.
+// What the frame reader answers: the rules' number, 0 for success, and the number of octets read.
 #[repr(C)]
-pub struct FrameAnswer {
+pub struct FrameReadAnswer {
     pub refusal: u32,
-    pub count: u32,
+    pub octets: u32,
+}
+
+// What the frame writer answers: the rules' number, 0 for success, and the number of bits written.
+#[repr(C)]
+pub struct FrameWriteAnswer {
+    pub refusal: u32,
+    pub bits: u32,
 }
 
 // What the message reader answers: the rules' number, 0 for success, and then the type, the revision, the number of codes, and
@@ -30,30 +37,30 @@ pub struct MessageAnswer {
 
 // The frame reader: the information of the frame in the first bits of the run.
 #[no_mangle]
-pub extern "C" fn kamvezhor_read_frame(run: &[u8], bits: usize, out: &mut [u8]) -> FrameAnswer
+pub extern "C" fn kamvezhor_read_frame(run: &[u8], bits: usize, out: &mut [u8]) -> FrameReadAnswer
     ensures { λ r. ⌜ ReadsFrame (now (run .entry)) bits (now (out .entry)) r (now (out .exit)) ⌝ }
 {
     match read_frame(run, bits, out) {
-        FrameRead::Octets(n) => FrameAnswer {
+        FrameRead::Octets(n) => FrameReadAnswer {
             refusal: 0,
-            count: n as u32,
+            octets: n as u32,
         },
-        FrameRead::BadLent => frame_refusal(1),
-        FrameRead::BadFlags => frame_refusal(2),
-        FrameRead::SplitOctet => frame_refusal(3),
-        FrameRead::TooShort => frame_refusal(4),
-        FrameRead::TooLong => frame_refusal(5),
-        FrameRead::WrongCheck => frame_refusal(6),
+        FrameRead::BadLent => read_refusal(1),
+        FrameRead::BadFlags => read_refusal(2),
+        FrameRead::SplitOctet => read_refusal(3),
+        FrameRead::TooShort => read_refusal(4),
+        FrameRead::TooLong => read_refusal(5),
+        FrameRead::WrongCheck => read_refusal(6),
     }
 }
 
-// A refusal, which gives nothing.
-fn frame_refusal(no: u32) -> FrameAnswer
-    ensures { λ r. ⌜ r ≡ record { refusal = no; count = 0 } ⌝ }
+// A refusal of the reader, which gives no octets.
+fn read_refusal(no: u32) -> FrameReadAnswer
+    ensures { λ r. ⌜ r ≡ record { refusal = no; octets = 0 } ⌝ }
 {
-    FrameAnswer {
+    FrameReadAnswer {
         refusal: no,
-        count: 0,
+        octets: 0,
     }
 }
 
@@ -64,17 +71,27 @@ pub extern "C" fn kamvezhor_write_frame(
     opening: usize,
     closing: usize,
     out: &mut [u8],
-) -> FrameAnswer
+) -> FrameWriteAnswer
     ensures { λ r. ⌜ WritesFrame (now (information .entry)) opening closing (now (out .entry)) r (now (out .exit)) ⌝ }
 {
     match write_frame(information, opening, closing, out) {
-        FrameWritten::Bits(n) => FrameAnswer {
+        FrameWritten::Bits(n) => FrameWriteAnswer {
             refusal: 0,
-            count: n as u32,
+            bits: n as u32,
         },
-        FrameWritten::BadLent => frame_refusal(1),
-        FrameWritten::BadLength => frame_refusal(7),
-        FrameWritten::BadFlagCount => frame_refusal(8),
+        FrameWritten::BadLent => write_refusal(1),
+        FrameWritten::BadLength => write_refusal(7),
+        FrameWritten::BadFlagCount => write_refusal(8),
+    }
+}
+
+// A refusal of the writer, which gives no bits.
+fn write_refusal(no: u32) -> FrameWriteAnswer
+    ensures { λ r. ⌜ r ≡ record { refusal = no; bits = 0 } ⌝ }
+{
+    FrameWriteAnswer {
+        refusal: no,
+        bits: 0,
     }
 }
 

@@ -1,5 +1,5 @@
--- To be believed: the octets of a message, what becomes of a list that is to be written (RULES, Message writer), by the rules' numbers,
--- and what that leaves in an output.
+-- To be believed: the octets of a message, what becomes of a list that is to be written (RULES, Message reader and writer), by the
+-- rules' numbers, and what that leaves in an output.
 -- Assumes nothing.
 use Prim.Native.Nat.{ℕ, _≤_}
 use mathlib.Core.Bool.{Bool, true, false, not}

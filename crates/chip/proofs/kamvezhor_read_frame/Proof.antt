@@ -15,22 +15,22 @@ returns : tie.Need-returns
 returns c = read-told _ _ (c .before .before .before .before .before .read-frame .ensures) (Octets (c .before .n .given .0 .0)) (c .before .n .given .1) _ refl
 
 returns-2 : tie.Need-returns-2
-returns-2 c = read-told _ _ (c .before .before .before .before .before .read-frame .ensures) BadLent (c .before .enum-told .given .1) _ (c .frame-refusal .ensures)
+returns-2 c = read-told _ _ (c .before .before .before .before .before .read-frame .ensures) BadLent (c .before .enum-told .given .1) _ (c .read-refusal .ensures)
 
 returns-3 : tie.Need-returns-3
-returns-3 c = read-told _ _ (c .before .before .before .before .before .read-frame .ensures) BadFlags (c .before .enum-told2 .given .1) _ (c .frame-refusal2 .ensures)
+returns-3 c = read-told _ _ (c .before .before .before .before .before .read-frame .ensures) BadFlags (c .before .enum-told2 .given .1) _ (c .read-refusal2 .ensures)
 
 returns-4 : tie.Need-returns-4
-returns-4 c = read-told _ _ (c .before .before .before .before .before .read-frame .ensures) SplitOctet (c .before .enum-told3 .given .1) _ (c .frame-refusal3 .ensures)
+returns-4 c = read-told _ _ (c .before .before .before .before .before .read-frame .ensures) SplitOctet (c .before .enum-told3 .given .1) _ (c .read-refusal3 .ensures)
 
 returns-5 : tie.Need-returns-5
-returns-5 c = read-told _ _ (c .before .before .before .before .before .read-frame .ensures) TooShort (c .before .enum-told4 .given .1) _ (c .frame-refusal4 .ensures)
+returns-5 c = read-told _ _ (c .before .before .before .before .before .read-frame .ensures) TooShort (c .before .enum-told4 .given .1) _ (c .read-refusal4 .ensures)
 
 returns-6 : tie.Need-returns-6
-returns-6 c = read-told _ _ (c .before .before .before .before .before .read-frame .ensures) TooLong (c .before .enum-told5 .given .1) _ (c .frame-refusal5 .ensures)
+returns-6 c = read-told _ _ (c .before .before .before .before .before .read-frame .ensures) TooLong (c .before .enum-told5 .given .1) _ (c .read-refusal5 .ensures)
 
 returns-7 : tie.Need-returns-7
-returns-7 c = read-told _ _ (c .before .before .before .before .before .read-frame .ensures) WrongCheck (c .before .enum-told6 .given .1) _ (c .frame-refusal6 .ensures)
+returns-7 c = read-told _ _ (c .before .before .before .before .before .read-frame .ensures) WrongCheck (c .before .enum-told6 .given .1) _ (c .read-refusal6 .ensures)
 
 pub kamvezhor-read-frame-spec : {M : Type 1} → statement M
 kamvezhor-read-frame-spec =

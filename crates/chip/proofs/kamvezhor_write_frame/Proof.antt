@@ -15,13 +15,13 @@ returns : tie.Need-returns
 returns c = write-told _ _ _ (c .before .before .before .before .before .write-frame .ensures) (Bits (c .before .n .given .0 .0)) (c .before .n .given .1) _ refl
 
 returns-2 : tie.Need-returns-2
-returns-2 c = write-told _ _ _ (c .before .before .before .before .before .write-frame .ensures) BadLent (c .before .enum-told .given .1) _ (c .frame-refusal .ensures)
+returns-2 c = write-told _ _ _ (c .before .before .before .before .before .write-frame .ensures) BadLent (c .before .enum-told .given .1) _ (c .write-refusal .ensures)
 
 returns-3 : tie.Need-returns-3
-returns-3 c = write-told _ _ _ (c .before .before .before .before .before .write-frame .ensures) BadLength (c .before .enum-told2 .given .1) _ (c .frame-refusal2 .ensures)
+returns-3 c = write-told _ _ _ (c .before .before .before .before .before .write-frame .ensures) BadLength (c .before .enum-told2 .given .1) _ (c .write-refusal2 .ensures)
 
 returns-4 : tie.Need-returns-4
-returns-4 c = write-told _ _ _ (c .before .before .before .before .before .write-frame .ensures) BadFlagCount (c .before .enum-told3 .given .1) _ (c .frame-refusal3 .ensures)
+returns-4 c = write-told _ _ _ (c .before .before .before .before .before .write-frame .ensures) BadFlagCount (c .before .enum-told3 .given .1) _ (c .write-refusal3 .ensures)
 
 pub kamvezhor-write-frame-spec : {M : Type 1} → statement M
 kamvezhor-write-frame-spec =

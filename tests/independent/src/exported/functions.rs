@@ -3,9 +3,15 @@
 use super::lent::Lent;
 
 #[repr(C)]
-struct FrameAnswer {
+struct FrameReadAnswer {
     refusal: u32,
-    count: u32,
+    octets: u32,
+}
+
+#[repr(C)]
+struct FrameWriteAnswer {
+    refusal: u32,
+    bits: u32,
 }
 
 #[repr(C)]
@@ -26,7 +32,7 @@ extern "C" {
         bits: usize,
         out: *mut u8,
         out_size: usize,
-    ) -> FrameAnswer;
+    ) -> FrameReadAnswer;
 
     fn kamvezhor_write_frame(
         information: *const u8,
@@ -35,7 +41,7 @@ extern "C" {
         closing: usize,
         out: *mut u8,
         out_size: usize,
-    ) -> FrameAnswer;
+    ) -> FrameWriteAnswer;
 
     fn kamvezhor_read_message(
         message: *const u8,
@@ -70,18 +76,13 @@ fn with_both(
     }
 }
 
-impl FrameAnswer {
-    fn numbers(&self) -> Vec<u32> {
-        vec![self.refusal, self.count]
-    }
-}
-
 pub fn read_frame(run: &[u8], bits: usize, out: &[u8]) -> Returned {
     with_both(run, out, |run, out| {
         let (run, run_size) = (run.pointer(), run.length());
         let (out, out_size) = (out.pointer(), out.length());
         // SAFETY: both point to so many octets, which do not overlap.
-        unsafe { kamvezhor_read_frame(run, run_size, bits, out, out_size) }.numbers()
+        let answer = unsafe { kamvezhor_read_frame(run, run_size, bits, out, out_size) };
+        vec![answer.refusal, answer.octets]
     })
 }
 
@@ -92,7 +93,7 @@ pub fn write_frame(information: &[u8], opening: usize, closing: usize, out: &[u8
         // SAFETY: both point to so many octets, which do not overlap.
         let answer =
             unsafe { kamvezhor_write_frame(information, size, opening, closing, out, out_size) };
-        answer.numbers()
+        vec![answer.refusal, answer.bits]
     })
 }
 
