@@ -1,5 +1,7 @@
 -- To be believed: the tables of parameters as V.8 bis prints them, 5-1 to 5-3 and 6-1 to 6-10: one list for each printed octet,
--- from bit 1 up. A parameter is named if it is printed and not reserved; a non-standard one is named too.
+-- from bit 1 up. A parameter is named if it is printed and not reserved; a non-standard one is named too. Beside each row stands
+-- what V.8 bis prints there, without "ITU-T" in front and without remarks in brackets (but for the two V.34 of Table 6-10a); of a
+-- reserved one the word "Reserved" alone. tools/names.py reads these rows.
 -- Assumes nothing.
 use Prim.Native.Nat.{ℕ}
 use mathlib.Core.List.{List, [], _∷_, _++_}
@@ -13,104 +15,276 @@ pub data Printed : Type 0 where
 
 -- ---- the identification field
 
--- NPar(1): V.8; Short V.8; Additional information available; Transmit ACK(1); two reserved; Non-standard field
+-- Table 5-1: NPar(1)
 abbrev pub table5-1 : List Printed
-table5-1 = named ∷ named ∷ named ∷ named ∷ reserved ∷ reserved ∷ nonStandard ∷ []
+table5-1 =
+    named ∷  -- V.8
+    named ∷  -- Short V.8
+    named ∷  -- Additional information available
+    named ∷  -- Transmit ACK(1)
+    reserved ∷  -- Reserved
+    reserved ∷  -- Reserved
+    nonStandard ∷  -- Non-standard field
+    []
 
--- SPar(1): Network type; six reserved
+-- Table 5-2: SPar(1)
 abbrev pub table5-2 : List Printed
-table5-2 = named ∷ reserved ∷ reserved ∷ reserved ∷ reserved ∷ reserved ∷ reserved ∷ []
+table5-2 =
+    named ∷  -- Network type
+    reserved ∷  -- Reserved
+    reserved ∷  -- Reserved
+    reserved ∷  -- Reserved
+    reserved ∷  -- Reserved
+    reserved ∷  -- Reserved
+    reserved ∷  -- Reserved
+    []
 
--- Network type NPar(2): Cellular access; ISDN access; Digital PSTN access; two reserved; Non-standard network
+-- Table 5-3: Network type, NPar(2)
 abbrev pub table5-3 : List Printed
-table5-3 = named ∷ named ∷ named ∷ reserved ∷ reserved ∷ nonStandard ∷ []
+table5-3 =
+    named ∷  -- Cellular access
+    named ∷  -- ISDN access
+    named ∷  -- Digital PSTN access
+    reserved ∷  -- Reserved
+    reserved ∷  -- Reserved
+    nonStandard ∷  -- Non-standard network
+    []
 
 -- ---- the standard information field
 
--- NPar(1): six reserved; Non-standard capabilities
+-- Table 6-1: NPar(1)
 abbrev pub table6-1 : List Printed
-table6-1 = reserved ∷ reserved ∷ reserved ∷ reserved ∷ reserved ∷ reserved ∷ nonStandard ∷ []
+table6-1 =
+    reserved ∷  -- Reserved
+    reserved ∷  -- Reserved
+    reserved ∷  -- Reserved
+    reserved ∷  -- Reserved
+    reserved ∷  -- Reserved
+    reserved ∷  -- Reserved
+    nonStandard ∷  -- Non-standard capabilities
+    []
 
--- SPar(1): Data; Simultaneous voice and data; H.324 multimedia terminal; V.18 text telephone; T.30 facsimile; Analogue telephony;
--- T.101 videotex terminal
+-- Table 6-2a: SPar(1), octet 1
 abbrev pub table6-2a : List Printed
-table6-2a = named ∷ named ∷ named ∷ named ∷ named ∷ named ∷ named ∷ []
+table6-2a =
+    named ∷  -- Data
+    named ∷  -- Simultaneous voice and data
+    named ∷  -- H.324 multimedia terminal
+    named ∷  -- V.18 text telephone
+    named ∷  -- T.30 facsimile
+    named ∷  -- Analogue telephony
+    named ∷  -- T.101 videotex terminal
+    []
 
--- H.324-Multilink; Multilink-Additional-Connection; five reserved
+-- Table 6-2b: SPar(1), octet 2
 abbrev pub table6-2b : List Printed
-table6-2b = named ∷ named ∷ reserved ∷ reserved ∷ reserved ∷ reserved ∷ reserved ∷ []
+table6-2b =
+    named ∷  -- H.324-Multilink
+    named ∷  -- Multilink-Additional-Connection
+    reserved ∷  -- Reserved
+    reserved ∷  -- Reserved
+    reserved ∷  -- Reserved
+    reserved ∷  -- Reserved
+    reserved ∷  -- Reserved
+    []
 
--- Data NPar(2): Transparent data; V.42; V.42 bis; V.14; T.120; Non-standard capabilities
+-- Table 6-3a: Data, NPar(2), octet 1
 abbrev pub table6-3a : List Printed
-table6-3a = named ∷ named ∷ named ∷ named ∷ named ∷ nonStandard ∷ []
+table6-3a =
+    named ∷  -- Transparent data
+    named ∷  -- V.42 error control
+    named ∷  -- V.42 bis data compression
+    named ∷  -- V.14 async/sync conversion
+    named ∷  -- T.120 conferencing
+    nonStandard ∷  -- Non-standard capabilities
+    []
 
--- T.84; T.434; V.80; reserved; V.34; V.32 bis
+-- Table 6-3b: Data, NPar(2), octet 2
 abbrev pub table6-3b : List Printed
-table6-3b = named ∷ named ∷ named ∷ reserved ∷ named ∷ named ∷ []
+table6-3b =
+    named ∷  -- T.84 SPIFF
+    named ∷  -- T.434 file transfer
+    named ∷  -- V.80 synchronous data HDLC
+    reserved ∷  -- Reserved
+    named ∷  -- V.34
+    named ∷  -- V.32 bis
+    []
 
--- V.32; V.22 bis; V.22; V.21; V.90 analogue; V.90 digital
+-- Table 6-3c: Data, NPar(2), octet 3
 abbrev pub table6-3c : List Printed
-table6-3c = named ∷ named ∷ named ∷ named ∷ named ∷ named ∷ []
+table6-3c =
+    named ∷  -- V.32
+    named ∷  -- V.22 bis
+    named ∷  -- V.22
+    named ∷  -- V.21
+    named ∷  -- V.90 analogue modem
+    named ∷  -- V.90 digital modem
+    []
 
--- V.91; V.92 analogue; V.92 digital; three reserved
+-- Table 6-3d: Data, NPar(2), octet 4
 abbrev pub table6-3d : List Printed
-table6-3d = named ∷ named ∷ named ∷ reserved ∷ reserved ∷ reserved ∷ []
+table6-3d =
+    named ∷  -- V.91
+    named ∷  -- V.92 analogue modem
+    named ∷  -- V.92 digital modem
+    reserved ∷  -- Reserved
+    reserved ∷  -- Reserved
+    reserved ∷  -- Reserved
+    []
 
--- Simultaneous voice and data NPar(2): V.70; V.61; reserved; V.34; V.32 bis; Non-standard capabilities
+-- Table 6-4a: Simultaneous voice and data, NPar(2), octet 1
 abbrev pub table6-4a : List Printed
-table6-4a = named ∷ named ∷ reserved ∷ named ∷ named ∷ nonStandard ∷ []
+table6-4a =
+    named ∷  -- V.70
+    named ∷  -- V.61
+    reserved ∷  -- Reserved
+    named ∷  -- V.34
+    named ∷  -- V.32 bis
+    nonStandard ∷  -- Non-standard capabilities
+    []
 
--- Transparent data; V.42; V.42 bis; V.14; T.120; Synchronous HDLC
+-- Table 6-4b: Simultaneous voice and data, NPar(2), octet 2
 abbrev pub table6-4b : List Printed
-table6-4b = named ∷ named ∷ named ∷ named ∷ named ∷ named ∷ []
+table6-4b =
+    named ∷  -- Transparent data
+    named ∷  -- V.42 error control
+    named ∷  -- V.42 bis data compression
+    named ∷  -- V.14 async/sync conversion
+    named ∷  -- T.120 conferencing
+    named ∷  -- Synchronous HDLC
+    []
 
--- T.84; T.434; V.76; three reserved
+-- Table 6-4c: Simultaneous voice and data, NPar(2), octet 3
 abbrev pub table6-4c : List Printed
-table6-4c = named ∷ named ∷ named ∷ reserved ∷ reserved ∷ reserved ∷ []
+table6-4c =
+    named ∷  -- T.84 SPIFF
+    named ∷  -- T.434 file transfer
+    named ∷  -- V.76 with default Suspend/Resume parameters
+    reserved ∷  -- Reserved
+    reserved ∷  -- Reserved
+    reserved ∷  -- Reserved
+    []
 
--- H.324 and H.324-Multilink NPar(2): Video; Audio; Encryption; two reserved; Non-standard capabilities
+-- Table 6-5a: H.324 and H.324-Multilink, NPar(2)
 abbrev pub table6-5a : List Printed
-table6-5a = named ∷ named ∷ named ∷ reserved ∷ reserved ∷ nonStandard ∷ []
+table6-5a =
+    named ∷  -- Video
+    named ∷  -- Audio
+    named ∷  -- Encryption
+    reserved ∷  -- Reserved
+    reserved ∷  -- Reserved
+    nonStandard ∷  -- Non-standard capabilities
+    []
 
--- SPar(2): Data; five reserved
+-- Table 6-5b: H.324 and H.324-Multilink, SPar(2)
 abbrev pub table6-5b : List Printed
-table6-5b = named ∷ reserved ∷ reserved ∷ reserved ∷ reserved ∷ reserved ∷ []
+table6-5b =
+    named ∷  -- Data
+    reserved ∷  -- Reserved
+    reserved ∷  -- Reserved
+    reserved ∷  -- Reserved
+    reserved ∷  -- Reserved
+    reserved ∷  -- Reserved
+    []
 
--- Data NPar(3): V.42; V.14; PPP; T.120; T.84; T.434
+-- Table 6-5c: H.324 and H.324-Multilink, Data, NPar(3), octet 1
 abbrev pub table6-5c : List Printed
-table6-5c = named ∷ named ∷ named ∷ named ∷ named ∷ named ∷ []
+table6-5c =
+    named ∷  -- V.42
+    named ∷  -- V.14
+    named ∷  -- PPP
+    named ∷  -- T.120
+    named ∷  -- T.84
+    named ∷  -- T.434
+    []
 
--- T.140; five reserved
+-- Table 6-5d: H.324 and H.324-Multilink, Data, NPar(3), octet 2
 abbrev pub table6-5d : List Printed
-table6-5d = named ∷ reserved ∷ reserved ∷ reserved ∷ reserved ∷ reserved ∷ []
+table6-5d =
+    named ∷  -- T.140
+    reserved ∷  -- Reserved
+    reserved ∷  -- Reserved
+    reserved ∷  -- Reserved
+    reserved ∷  -- Reserved
+    reserved ∷  -- Reserved
+    []
 
--- Multilink-Additional-Connection NPar(2): three reserved; Call association number present; two bits of that number
+-- Table 6-6a: Multilink-Additional-Connection, NPar(2), octet 1
 abbrev pub table6-6a : List Printed
-table6-6a = reserved ∷ reserved ∷ reserved ∷ named ∷ named ∷ named ∷ []
+table6-6a =
+    reserved ∷  -- Reserved
+    reserved ∷  -- Reserved
+    reserved ∷  -- Reserved
+    named ∷  -- Call association number present
+    named ∷  -- MSB of call association number
+    named ∷  -- Call association number
+    []
 
--- octets 2 to 5: Call association number
+-- Table 6-6b: Multilink-Additional-Connection, NPar(2), octets 2 to 5, each
 abbrev pub table6-6b : List Printed
-table6-6b = named ∷ named ∷ named ∷ named ∷ named ∷ named ∷ []
+table6-6b =
+    named ∷  -- Call association number
+    named ∷  -- Call association number
+    named ∷  -- Call association number
+    named ∷  -- Call association number
+    named ∷  -- Call association number
+    named ∷  -- Call association number
+    []
 
--- V.18 NPar(2): V.21; V.61; three reserved; Non-standard capabilities
+-- Table 6-7: V.18, NPar(2)
 abbrev pub table6-7 : List Printed
-table6-7 = named ∷ named ∷ reserved ∷ reserved ∷ reserved ∷ nonStandard ∷ []
+table6-7 =
+    named ∷  -- V.21
+    named ∷  -- V.61
+    reserved ∷  -- Reserved
+    reserved ∷  -- Reserved
+    reserved ∷  -- Reserved
+    nonStandard ∷  -- Non-standard capabilities
+    []
 
--- Analogue telephony NPar(2): Voice; Audio recording device; Voice bridging device; two reserved; Non-standard capabilities
+-- Table 6-8: Analogue telephony, NPar(2)
 abbrev pub table6-8 : List Printed
-table6-8 = named ∷ named ∷ named ∷ reserved ∷ reserved ∷ nonStandard ∷ []
+table6-8 =
+    named ∷  -- Voice
+    named ∷  -- Audio recording device
+    named ∷  -- Voice bridging device
+    reserved ∷  -- Reserved
+    reserved ∷  -- Reserved
+    nonStandard ∷  -- Non-standard capabilities
+    []
 
--- T.101 NPar(2): Duplex; V.29 short train; V.27 ter; two reserved; Non-standard capabilities
+-- Table 6-9: T.101, NPar(2)
 abbrev pub table6-9 : List Printed
-table6-9 = named ∷ named ∷ named ∷ reserved ∷ reserved ∷ nonStandard ∷ []
+table6-9 =
+    named ∷  -- Duplex
+    named ∷  -- V.29 short train
+    named ∷  -- V.27 ter
+    reserved ∷  -- Reserved
+    reserved ∷  -- Reserved
+    nonStandard ∷  -- Non-standard capabilities
+    []
 
--- T.30 NPar(2): T.30 procedures; V.34 half duplex; V.34 duplex; V.61; V.70; Non-standard capabilities
+-- Table 6-10a: T.30, NPar(2), octet 1
 abbrev pub table6-10a : List Printed
-table6-10a = named ∷ named ∷ named ∷ named ∷ named ∷ nonStandard ∷ []
+table6-10a =
+    named ∷  -- T.30 procedures
+    named ∷  -- V.34 (half duplex)
+    named ∷  -- V.34 (duplex)
+    named ∷  -- V.61
+    named ∷  -- V.70
+    nonStandard ∷  -- Non-standard capabilities
+    []
 
--- H.324; Extended negotiation method; Ms initiated session; two reserved; Non-standard capabilities
+-- Table 6-10b: T.30, NPar(2), octet 2
 abbrev pub table6-10b : List Printed
-table6-10b = named ∷ named ∷ named ∷ reserved ∷ reserved ∷ nonStandard ∷ []
+table6-10b =
+    named ∷  -- H.324
+    named ∷  -- Extended negotiation method
+    named ∷  -- Ms initiated session
+    reserved ∷  -- Reserved
+    reserved ∷  -- Reserved
+    nonStandard ∷  -- Non-standard capabilities
+    []
 
 -- ---- which table belongs to which block: a block is known by the code that it stands under
 
