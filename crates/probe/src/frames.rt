@@ -3,27 +3,31 @@ use super::wire;
 use super::wire::Answer;
 use super::wire::PIECES;
 use super::wire::RUN_LIMIT;
+use super::wire::Reply;
 use super::wire::U8;
 use super::wire::U32;
 use frame::FrameRead;
 use frame::FrameWritten;
 
 // Request: bits u32, run, out. Reply: no u8, octets u16, out.
-pub(crate) fn frame_reader(request: &[u8], reply: &mut [u8]) -> usize {
+pub(crate) fn frame_reader(request: &[u8]) -> Reply {
     let bits = wire::read_number(request, PIECES, U32);
     let run = wire::read_run(request, bits.end, RUN_LIMIT);
     let out = wire::read_run(request, run.end, RUN_LIMIT);
     if out.end != request.len() {
-        return wire::put_refusal(reply);
+        return wire::no_reply();
     }
-    let mut buffer = [0u8; RUN_LIMIT];
-    let room = wire::put_octets(&mut buffer, 0, wire::octets_of(request, out));
-    let read = frame::read_frame(
+    reply_of_reader(
         wire::octets_of(request, run),
         bits.value as usize,
-        wire::first_mut(&mut buffer, room),
-    );
-    wire::put_answer(reply, answer_of_reader(read), &buffer, room)
+        wire::octets_of(request, out),
+    )
+}
+
+fn reply_of_reader(run: &[u8], bits: usize, out: &[u8]) -> Reply {
+    let mut buffer = wire::lent(out);
+    let read = frame::read_frame(run, bits, wire::first_mut(&mut buffer, out.len()));
+    wire::reply_with_buffer(answer_of_reader(read), wire::first(&buffer, out.len()))
 }
 
 fn answer_of_reader(read: FrameRead) -> Answer {
@@ -39,23 +43,27 @@ fn answer_of_reader(read: FrameRead) -> Answer {
 }
 
 // Request: opening u8, closing u8, info, out. Reply: no u8, bits u16, out.
-pub(crate) fn frame_writer(request: &[u8], reply: &mut [u8]) -> usize {
+pub(crate) fn frame_writer(request: &[u8]) -> Reply {
     let opening = wire::read_number(request, PIECES, U8);
     let closing = wire::read_number(request, opening.end, U8);
     let info = wire::read_run(request, closing.end, RUN_LIMIT);
     let out = wire::read_run(request, info.end, RUN_LIMIT);
     if out.end != request.len() {
-        return wire::put_refusal(reply);
+        return wire::no_reply();
     }
-    let mut buffer = [0u8; RUN_LIMIT];
-    let room = wire::put_octets(&mut buffer, 0, wire::octets_of(request, out));
-    let written = frame::write_frame(
+    reply_of_writer(
         wire::octets_of(request, info),
         opening.value as usize,
         closing.value as usize,
-        wire::first_mut(&mut buffer, room),
-    );
-    wire::put_answer(reply, answer_of_writer(written), &buffer, room)
+        wire::octets_of(request, out),
+    )
+}
+
+fn reply_of_writer(info: &[u8], opening: usize, closing: usize, out: &[u8]) -> Reply {
+    let mut buffer = wire::lent(out);
+    let room = wire::first_mut(&mut buffer, out.len());
+    let written = frame::write_frame(info, opening, closing, room);
+    wire::reply_with_buffer(answer_of_writer(written), wire::first(&buffer, out.len()))
 }
 
 fn answer_of_writer(written: FrameWritten) -> Answer {

@@ -1,34 +1,57 @@
 // The probe: a program by which any other puts the operations to the test. Standard input is a row
 // of requests and standard output a row of replies, one for each request, in order. Both have the
 // form of a run (wire.rt). A request is the octet of its operation and the pieces that this takes.
+mod choices;
 mod frames;
 mod messages;
+mod parts;
 mod stations;
 mod wire;
 
 use libc::STDIN_FILENO;
 use libc::STDOUT_FILENO;
+use wire::Reply;
+use wire::U8;
+use wire::U16;
 
 // The octets of the longest request.
 const REQUEST_LIMIT: usize = 65535;
 
-// Room for the longest reply.
-const REPLY_LIMIT: usize = 4096;
-
-// The same for a reply behind its length.
-const OUTPUT_LIMIT: usize = REPLY_LIMIT + 2;
-
-// Makes the reply to a request. An empty request counts as one for operation 0, which is none.
-fn answer(request: &[u8], reply: &mut [u8]) -> usize {
+// Has the request's operation carried out. An empty request counts as one for operation 0, which is none.
+fn carry_out(request: &[u8]) -> Reply {
     match wire::octet(request, 0) {
-        1 => frames::frame_reader(request, reply),
-        2 => frames::frame_writer(request, reply),
-        3 => messages::message_reader(request, reply),
-        4 => messages::message_writer(request, reply),
-        5 => messages::striking(request, reply),
-        6 => stations::station_step(request, reply),
-        _ => wire::put_refusal(reply),
+        1 => frames::frame_reader(request),
+        2 => frames::frame_writer(request),
+        3 => messages::message_reader(request),
+        4 => messages::message_writer(request),
+        5 => messages::striking(request),
+        6 => stations::station_step(request),
+        32 => choices::check_tables(request),
+        33 => choices::first_ready(request),
+        34 => choices::first_common(request),
+        35 => choices::judge_mode(request),
+        36 => parts::ns_read(request),
+        37 => parts::ns_made_up(request),
+        _ => wire::no_reply(),
     }
+}
+
+// The reply to a request: FF to what is none.
+fn answer(request: &[u8]) -> Reply {
+    let reply = carry_out(request);
+    if reply.length == 0 {
+        return wire::put_number(reply, U8, 255);
+    }
+    reply
+}
+
+// Writes a reply behind its length. False where the output takes no more.
+fn write_reply(reply: Reply) -> bool {
+    let head = wire::put_number(wire::no_reply(), U16, reply.length as u64);
+    let head_octets = head.octets;
+    let octets = reply.octets;
+    io::write_all(STDOUT_FILENO, wire::first(&head_octets, head.length))
+        && io::write_all(STDOUT_FILENO, wire::first(&octets, reply.length))
 }
 
 // Reads a request and writes its reply. False where the input ends before the request does, or the
@@ -38,16 +61,12 @@ fn serve_one() -> bool {
     if io::read_full(STDIN_FILENO, &mut head) < 2 {
         return false;
     }
-    let length = wire::read_number(&head, 0, wire::U16).value as usize;
+    let length = wire::read_number(&head, 0, U16).value as usize;
     let mut request = [0u8; REQUEST_LIMIT];
     if io::read_full(STDIN_FILENO, wire::first_mut(&mut request, length)) < length {
         return false;
     }
-    let mut reply = [0u8; REPLY_LIMIT];
-    let count = answer(wire::first(&request, length), &mut reply);
-    let mut output = [0u8; OUTPUT_LIMIT];
-    let end = wire::put_run(&mut output, 0, &reply, count);
-    io::write_all(STDOUT_FILENO, wire::first(&output, end))
+    write_reply(answer(wire::first(&request, length)))
 }
 
 // Serves to the end of the input. A proved loop has to end, and nothing says that the input does:

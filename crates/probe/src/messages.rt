@@ -2,10 +2,13 @@
 use super::wire;
 use super::wire::Answer;
 use super::wire::PIECES;
+use super::wire::REPLY_LIMIT;
 use super::wire::RUN_LIMIT;
+use super::wire::Reply;
 use super::wire::U8;
 use super::wire::U16;
 use super::wire::U32;
+use message::Message;
 use message::MessageRead;
 use strike::Struck;
 use writer::MessageWritten;
@@ -16,44 +19,58 @@ const LIST_LIMIT: usize = 512;
 // What each number of a lent list starts as.
 const UNTOUCHED: u32 = 0xDEADBEEF;
 
+// Where the pieces of a request to the message writer start: type u8, revision u8, the count of the list, its numbers.
+const TYPE_AT: usize = 1;
+
+const REVISION_AT: usize = 2;
+
+const COUNT_AT: usize = 3;
+
+const LIST_AT: usize = 5;
+
 // Request: room u16, message. Reply: no u8, type u8, revision u8, count u16, NS place u16, NS length
 // u16, then the room's numbers, u32 each.
-pub(crate) fn message_reader(request: &[u8], reply: &mut [u8]) -> usize {
+pub(crate) fn message_reader(request: &[u8]) -> Reply {
     let room = wire::read_number(request, PIECES, U16);
     let run = wire::read_run(request, room.end, RUN_LIMIT);
     let count = room.value as usize;
     if run.end != request.len() || LIST_LIMIT < count {
-        return wire::put_refusal(reply);
+        return wire::no_reply();
     }
+    reply_of_reader(wire::octets_of(request, run), count)
+}
+
+fn reply_of_reader(octets: &[u8], count: usize) -> Reply {
     let mut list = [UNTOUCHED; LIST_LIMIT];
-    let read = message::read_message(wire::octets_of(request, run), first_mut(&mut list, count));
-    let end = put_reading(reply, read);
-    put_numbers(reply, end, first(&list, count))
+    let read = message::read_message(octets, first_mut(&mut list, count));
+    put_list(head_of_reading(read), first(&list, count))
 }
 
 // What the reader answers, before the list.
-fn put_reading(reply: &mut [u8], read: MessageRead) -> usize {
+fn head_of_reading(read: MessageRead) -> Reply {
     match read {
-        MessageRead::Read(m) => {
-            let kind_at = wire::put_number(reply, 0, U8, 0);
-            let revision_at = wire::put_number(reply, kind_at, U8, m.kind as u64);
-            let count_at = wire::put_number(reply, revision_at, U8, m.revision as u64);
-            let ns_at = wire::put_number(reply, count_at, U16, m.count as u64);
-            let ns = m.ns;
-            let length_at = wire::put_number(reply, ns_at, U16, ns.at as u64);
-            wire::put_number(reply, length_at, U16, ns.length as u64)
-        }
-        MessageRead::BadLent => put_reading_refusal(reply, 1),
-        MessageRead::BadSize => put_reading_refusal(reply, 2),
-        MessageRead::UnknownType => put_reading_refusal(reply, 3),
-        MessageRead::Malformed => put_reading_refusal(reply, 4),
+        MessageRead::Read(m) => head_of_message(m),
+        _ => wire::refusal(number_of_reading(read), 8),
     }
 }
 
-// A refusal's number, and zeros for what there is not.
-fn put_reading_refusal(reply: &mut [u8], no: u64) -> usize {
-    let rest_at = wire::put_number(reply, 0, U8, no);
-    wire::put_octets(reply, rest_at, &[0u8; 8])
+fn head_of_message(m: Message) -> Reply {
+    let typed = wire::put_number(wire::reply_with(0), U8, m.kind as u64);
+    let dated = wire::put_number(typed, U8, m.revision as u64);
+    let counted = wire::put_number(dated, U16, m.count as u64);
+    let ns = m.ns;
+    wire::put_pair(counted, ns.at, ns.length)
+}
+
+// The number of the message reader's answer.
+pub(crate) fn number_of_reading(read: MessageRead) -> u64 {
+    match read {
+        MessageRead::Read(_) => 0,
+        MessageRead::BadLent => 1,
+        MessageRead::BadSize => 2,
+        MessageRead::UnknownType => 3,
+        MessageRead::Malformed => 4,
+    }
 }
 
 // The first numbers of a list, all where there are fewer.
@@ -72,57 +89,73 @@ fn first_mut(list: &mut [u32], count: usize) -> &mut [u32] {
     list
 }
 
-fn wide(number: u32) -> u64 {
-    number as u64
-}
-
-// Writes numbers to a place, and gives the place behind them.
-fn put_numbers(reply: &mut [u8], at: usize, list: &[u32]) -> usize {
-    let mut next = at;
-    let mut i = 0;
-    while i < list.len() {
-        next = wire::put_number(reply, next, U32, wide(list[i]));
-        i += 1;
+// The octet at a place of a number, the lowest at 0.
+fn octet_in(number: u32, place: usize) -> u8 {
+    match place {
+        0 => (number % 256) as u8,
+        1 => (number / 256 % 256) as u8,
+        2 => (number / 65536 % 256) as u8,
+        _ => (number / 16777216) as u8,
     }
-    next
 }
 
-// Reads as many numbers as there is room for from a place on, and gives the place behind them.
-fn read_numbers(request: &[u8], at: usize, list: &mut [u32]) -> usize {
-    let mut next = at;
+// Puts the numbers of a list to a reply, u32 each. By `put_number` the whole reply would be copied for each of them.
+fn put_list(reply: Reply, list: &[u32]) -> Reply {
+    let mut all = reply.octets;
+    let mut length = reply.length;
+    let mut taken = 0;
+    while taken / U32 < list.len() && length < REPLY_LIMIT {
+        all[length] = octet_in(list[taken / U32], taken % U32);
+        taken += 1;
+        length += 1;
+    }
+    Reply {
+        octets: all,
+        length,
+    }
+}
+
+// The list of a request to the message writer: so many numbers, and zeros behind them.
+fn list_of(request: &[u8], count: usize) -> [u32; LIST_LIMIT] {
+    let mut list = [0u32; LIST_LIMIT];
+    let mut next = LIST_AT;
     let mut i = 0;
-    while i < list.len() {
+    while i < count && i < LIST_LIMIT {
         let number = wire::read_number(request, next, U32);
         list[i] = (number.value % 4294967296) as u32;
         next = number.end;
         i += 1;
     }
-    next
+    list
 }
 
 // Request: type u8, revision u8, count u16, that many u32, NS, out. Reply: no u8, octets u16, out.
-pub(crate) fn message_writer(request: &[u8], reply: &mut [u8]) -> usize {
-    let kind = wire::read_number(request, PIECES, U8);
-    let revision = wire::read_number(request, kind.end, U8);
-    let length = wire::read_number(request, revision.end, U16);
-    let count = length.value as usize;
-    let mut list = [0u32; LIST_LIMIT];
-    let ns_at = read_numbers(request, length.end, first_mut(&mut list, count));
+pub(crate) fn message_writer(request: &[u8]) -> Reply {
+    let count = wire::read_number(request, COUNT_AT, U16).value as usize;
+    if LIST_LIMIT < count {
+        return wire::no_reply();
+    }
+    let ns_at = wire::end_of(request, LIST_AT, U32 * count);
     let ns = wire::read_run(request, ns_at, RUN_LIMIT);
     let out = wire::read_run(request, ns.end, RUN_LIMIT);
-    if out.end != request.len() || LIST_LIMIT < count {
-        return wire::put_refusal(reply);
+    if out.end != request.len() {
+        return wire::no_reply();
     }
-    let mut buffer = [0u8; RUN_LIMIT];
-    let room = wire::put_octets(&mut buffer, 0, wire::octets_of(request, out));
+    let out_octets = wire::octets_of(request, out);
+    reply_of_writer(request, count, wire::octets_of(request, ns), out_octets)
+}
+
+fn reply_of_writer(request: &[u8], count: usize, ns: &[u8], out: &[u8]) -> Reply {
+    let list = list_of(request, count);
+    let mut buffer = wire::lent(out);
     let written = writer::write_message(
-        (kind.value % 256) as u8,
-        (revision.value % 256) as u8,
+        wire::octet(request, TYPE_AT),
+        wire::octet(request, REVISION_AT),
         first(&list, count),
-        wire::octets_of(request, ns),
-        wire::first_mut(&mut buffer, room),
+        ns,
+        wire::first_mut(&mut buffer, out.len()),
     );
-    wire::put_answer(reply, answer_of_writer(written), &buffer, room)
+    wire::reply_with_buffer(answer_of_writer(written), wire::first(&buffer, out.len()))
 }
 
 fn answer_of_writer(written: MessageWritten) -> Answer {
@@ -140,19 +173,20 @@ fn answer_of_writer(written: MessageWritten) -> Answer {
 }
 
 // Request: message, out. Reply: no u8, octets u16, out.
-pub(crate) fn striking(request: &[u8], reply: &mut [u8]) -> usize {
+pub(crate) fn striking(request: &[u8]) -> Reply {
     let message = wire::read_run(request, PIECES, RUN_LIMIT);
     let out = wire::read_run(request, message.end, RUN_LIMIT);
     if out.end != request.len() {
-        return wire::put_refusal(reply);
+        return wire::no_reply();
     }
-    let mut buffer = [0u8; RUN_LIMIT];
-    let room = wire::put_octets(&mut buffer, 0, wire::octets_of(request, out));
-    let struck = strike::strike_message(
-        wire::octets_of(request, message),
-        wire::first_mut(&mut buffer, room),
-    );
-    wire::put_answer(reply, answer_of_striking(struck), &buffer, room)
+    let out_octets = wire::octets_of(request, out);
+    reply_of_striking(wire::octets_of(request, message), out_octets)
+}
+
+fn reply_of_striking(octets: &[u8], out: &[u8]) -> Reply {
+    let mut buffer = wire::lent(out);
+    let struck = strike::strike_message(octets, wire::first_mut(&mut buffer, out.len()));
+    wire::reply_with_buffer(answer_of_striking(struck), wire::first(&buffer, out.len()))
 }
 
 fn answer_of_striking(struck: Struck) -> Answer {

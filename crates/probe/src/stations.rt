@@ -1,6 +1,8 @@
 // Operation 6: one step of the station.
 use super::wire;
 use super::wire::RUN_LIMIT;
+use super::wire::Reply;
+use super::wire::Run;
 use super::wire::U8;
 use super::wire::U16;
 use super::wire::U64;
@@ -33,6 +35,18 @@ const OWN_AT: usize = 19;
 
 // The most octets of the wishes.
 const WISHES_LIMIT: usize = 2048;
+
+// The pieces of a request from the own table on.
+struct Pieces {
+    own: Run,
+    wishes: Run,
+    event: u64,
+    what: u64,
+    field: Run,
+    time: u64,
+    out: Run,
+    store: Run,
+}
 
 // A number of the event's `what` behind the last for each event.
 fn what_limit(event: u64) -> u64 {
@@ -144,9 +158,7 @@ fn event_of(event: u64, what: u64) -> Event {
     }
 }
 
-// Request: state, settings, own table, wishes, event u8, what u8, field, time u64, out, store. Reply: no u8, the state, signal u8, the
-// lengths of the first and second field and of what was stored, u16 each, out, store.
-pub(crate) fn station_step(request: &[u8], reply: &mut [u8]) -> usize {
+fn pieces_of(request: &[u8]) -> Pieces {
     let own = wire::read_run(request, OWN_AT, RUN_LIMIT);
     let wishes = wire::read_run(request, own.end, WISHES_LIMIT);
     let event = wire::read_number(request, wishes.end, U8);
@@ -154,42 +166,62 @@ pub(crate) fn station_step(request: &[u8], reply: &mut [u8]) -> usize {
     let field = wire::read_run(request, what.end, RUN_LIMIT);
     let time = wire::read_number(request, field.end, U64);
     let out = wire::read_run(request, time.end, RUN_LIMIT);
-    let store = wire::read_run(request, out.end, RUN_LIMIT);
-    if store.end != request.len() || !is_listed(request) || what_limit(event.value) <= what.value {
-        return wire::put_refusal(reply);
+    Pieces {
+        own,
+        wishes,
+        event: event.value,
+        what: what.value,
+        field,
+        time: time.value,
+        out,
+        store: wire::read_run(request, out.end, RUN_LIMIT),
     }
-    let mut output = [0u8; RUN_LIMIT];
-    let room = wire::put_octets(&mut output, 0, wire::octets_of(request, out));
-    let mut kept = [0u8; RUN_LIMIT];
-    let size = wire::put_octets(&mut kept, 0, wire::octets_of(request, store));
+}
+
+// Request: state, settings, own table, wishes, event u8, what u8, field, time u64, out, store. Reply: no u8, the state, signal u8, the
+// lengths of the first and second field and of what was stored, u16 each, out, store.
+pub(crate) fn station_step(request: &[u8]) -> Reply {
+    let pieces = pieces_of(request);
+    let store = pieces.store;
+    if store.end != request.len()
+        || !is_listed(request)
+        || what_limit(pieces.event) <= pieces.what
+    {
+        return wire::no_reply();
+    }
+    reply_of_step(request, pieces)
+}
+
+fn reply_of_step(request: &[u8], pieces: Pieces) -> Reply {
+    let out = wire::octets_of(request, pieces.out);
+    let store = wire::octets_of(request, pieces.store);
+    let mut output = wire::lent(out);
+    let mut kept = wire::lent(store);
     let stepped = station::step(
         state_at(request),
         settings_at(request),
-        wire::octets_of(request, own),
-        wire::octets_of(request, wishes),
-        event_of(event.value, what.value),
-        wire::octets_of(request, field),
-        time.value,
-        wire::first_mut(&mut output, room),
-        wire::first_mut(&mut kept, size),
+        wire::octets_of(request, pieces.own),
+        wire::octets_of(request, pieces.wishes),
+        event_of(pieces.event, pieces.what),
+        wire::octets_of(request, pieces.field),
+        pieces.time,
+        wire::first_mut(&mut output, out.len()),
+        wire::first_mut(&mut kept, store.len()),
     );
-    let out_at = put_stepped(reply, stepped);
-    let store_at = wire::put_run(reply, out_at, &output, room);
-    wire::put_run(reply, store_at, &kept, size)
+    let sent = wire::put_run(head_of_step(stepped), wire::first(&output, out.len()));
+    wire::put_run(sent, wire::first(&kept, store.len()))
 }
 
 // What a step answers, before the buffers.
-fn put_stepped(reply: &mut [u8], stepped: Stepped) -> usize {
+fn head_of_step(stepped: Stepped) -> Reply {
     let told = stepped.told;
     let signal = stepped.signal;
     let state = stepped.state;
     let phase = state.phase;
-    let phase_at = wire::put_number(reply, 0, U8, number_of(told));
-    let signal_at = put_phase(reply, phase_at, phase);
-    let first_at = wire::put_number(reply, signal_at, U8, number_of_sent(signal));
-    let second_at = wire::put_number(reply, first_at, U16, stepped.first as u64);
-    let stored_at = wire::put_number(reply, second_at, U16, stepped.second as u64);
-    wire::put_number(reply, stored_at, U16, stepped.stored as u64)
+    let phased = put_phase(wire::reply_with(number_of(told)), phase);
+    let signalled = wire::put_number(phased, U8, number_of_sent(signal));
+    let lengths = wire::put_pair(signalled, stepped.first, stepped.second);
+    wire::put_number(lengths, U16, stepped.stored as u64)
 }
 
 // The rules' number.
@@ -226,11 +258,11 @@ fn number_of_sent(sends: Sends) -> u64 {
 }
 
 // A phase: its number, entry u64, wish u8, ACK asked u8.
-fn put_phase(reply: &mut [u8], at: usize, phase: Phase) -> usize {
+fn put_phase(reply: Reply, phase: Phase) -> Reply {
     let carried = table::carried_by(phase);
     let kind = carried.kind;
-    let entry_at = wire::put_number(reply, at, U8, table::number_of(kind) as u64);
-    let wish_at = wire::put_number(reply, entry_at, U64, carried.entry);
-    let ack_at = wire::put_number(reply, wish_at, U8, carried.wish as u64);
-    wire::put_number(reply, ack_at, U8, carried.ack as u64)
+    let named = wire::put_number(reply, U8, table::number_of(kind) as u64);
+    let entered = wire::put_number(named, U64, carried.entry);
+    let wished = wire::put_number(entered, U8, carried.wish as u64);
+    wire::put_number(wished, U8, carried.ack as u64)
 }

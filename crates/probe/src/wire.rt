@@ -24,6 +24,9 @@ pub(crate) const U64: usize = 8;
 // The most octets of a run or buffer.
 pub(crate) const RUN_LIMIT: usize = 255;
 
+// Room for the longest reply.
+pub(crate) const REPLY_LIMIT: usize = 4096;
+
 pub(crate) struct Number {
     pub value: u64,
     pub end: usize,
@@ -39,6 +42,12 @@ pub(crate) struct Run {
 pub(crate) struct Answer {
     pub no: u8,
     pub count: usize,
+}
+
+// A reply. It goes from hand to hand by value, and what is put to it stands behind what was put before.
+pub(crate) struct Reply {
+    pub octets: [u8; REPLY_LIMIT],
+    pub length: usize,
 }
 
 // The octet at a place.
@@ -102,7 +111,7 @@ pub(crate) fn octets_of(request: &[u8], run: Run) -> &[u8] {
 }
 
 // Where so many octets end that start at a place.
-fn end_of(request: &[u8], start: usize, count: usize) -> usize {
+pub(crate) fn end_of(request: &[u8], start: usize, count: usize) -> usize {
     if request.len() < start {
         return CUT;
     }
@@ -112,24 +121,41 @@ fn end_of(request: &[u8], start: usize, count: usize) -> usize {
     start + count
 }
 
-// Copies octets to a place, and gives the place behind them.
-pub(crate) fn put_octets(to: &mut [u8], at: usize, octets: &[u8]) -> usize {
-    let mut next = at;
-    let mut taken = 0;
-    while taken < octets.len() && next < to.len() {
-        to[next] = octets[taken];
-        taken += 1;
-        next += 1;
+// What an operation gives where the request is none.
+pub(crate) fn no_reply() -> Reply {
+    Reply {
+        octets: [0u8; REPLY_LIMIT],
+        length: 0,
     }
-    next
+}
+
+// Puts octets to a reply, as many as it has room for.
+pub(crate) fn put_octets(reply: Reply, octets: &[u8]) -> Reply {
+    let mut all = reply.octets;
+    let mut length = reply.length;
+    let mut taken = 0;
+    while taken < octets.len() && length < REPLY_LIMIT {
+        all[length] = octets[taken];
+        taken += 1;
+        length += 1;
+    }
+    Reply {
+        octets: all,
+        length,
+    }
+}
+
+// A buffer as it is lent: these octets, and zeros behind them.
+pub(crate) fn lent(octets: &[u8]) -> [u8; REPLY_LIMIT] {
+    put_octets(no_reply(), octets).octets
 }
 
 fn lowest_octet(value: u64) -> u8 {
     (value % 256) as u8
 }
 
-// Writes a number to a place, and gives the place behind it.
-pub(crate) fn put_number(to: &mut [u8], at: usize, width: usize, value: u64) -> usize {
+// Puts a number of this width to a reply.
+pub(crate) fn put_number(reply: Reply, width: usize, value: u64) -> Reply {
     let octets = [
         lowest_octet(value),
         lowest_octet(value >> 8),
@@ -140,25 +166,31 @@ pub(crate) fn put_number(to: &mut [u8], at: usize, width: usize, value: u64) -> 
         lowest_octet(value >> 48),
         lowest_octet(value >> 56),
     ];
-    put_octets(to, at, first(&octets, width))
+    put_octets(reply, first(&octets, width))
 }
 
-// Writes the first octets of a buffer to a place, behind their length, and gives the place behind.
-pub(crate) fn put_run(to: &mut [u8], at: usize, buffer: &[u8], count: usize) -> usize {
-    let octets = first(buffer, count);
-    let next = put_number(to, at, U16, octets.len() as u64);
-    put_octets(to, next, octets)
+// A reply that begins with the rules' number, u8.
+pub(crate) fn reply_with(no: u64) -> Reply {
+    put_number(no_reply(), U8, no)
 }
 
-// The reply of most operations: no u8, count u16, the lent buffer. Gives its length, as does each
-// function that makes a reply.
-pub(crate) fn put_answer(reply: &mut [u8], answer: Answer, buffer: &[u8], room: usize) -> usize {
-    let count_at = put_number(reply, 0, U8, answer.no as u64);
-    let buffer_at = put_number(reply, count_at, U16, answer.count as u64);
-    put_run(reply, buffer_at, buffer, room)
+// Puts octets to a reply, behind their length.
+pub(crate) fn put_run(reply: Reply, octets: &[u8]) -> Reply {
+    put_octets(put_number(reply, U16, octets.len() as u64), octets)
 }
 
-// The reply to what is no request: FF.
-pub(crate) fn put_refusal(reply: &mut [u8]) -> usize {
-    put_number(reply, 0, U8, 255)
+// Puts two numbers to a reply, u16 each.
+pub(crate) fn put_pair(reply: Reply, one: usize, other: usize) -> Reply {
+    put_number(put_number(reply, U16, one as u64), U16, other as u64)
+}
+
+// The reply of most operations: no u8, count u16, the lent buffer.
+pub(crate) fn reply_with_buffer(answer: Answer, buffer: &[u8]) -> Reply {
+    let counted = put_number(reply_with(answer.no as u64), U16, answer.count as u64);
+    put_run(counted, buffer)
+}
+
+// A reply with a refusal's number, and zeros for what there is not.
+pub(crate) fn refusal(no: u64, zeros: usize) -> Reply {
+    put_octets(reply_with(no), first(&[0u8; 8], zeros))
 }

@@ -1,9 +1,9 @@
-//! The bench: checks are put to the programs one by one, differences are
+//! The bench: checks are put to the probe one by one, differences are
 //! reported, and the outcomes met are counted.
 
 pub use crate::score::Outcome;
 
-use crate::program::{Ended, Program};
+use crate::probe::{Ended, Probe};
 use crate::random::Random;
 use crate::score::{Required, Score};
 use crate::wire;
@@ -85,22 +85,8 @@ impl Check {
     }
 }
 
-/// The programs that checks are put to.
-pub struct Programs {
-    pub probe: Program,
-    pub chooser: Program,
-}
-
-/// Which of the programs a layer's checks are put to.
-#[derive(Clone, Copy)]
-pub enum Asked {
-    Probe,
-    Chooser,
-}
-
 /// The checks of one part of the product, and the outcomes they must meet.
 pub struct Layer {
-    pub asked: Asked,
     pub checks: Vec<Check>,
     pub outcomes: Vec<Outcome>,
     /// How often each of the outcomes has to be met in a run.
@@ -116,44 +102,33 @@ impl Layer {
 }
 
 pub struct Bench {
-    programs: Programs,
-    asked: Asked,
+    probe: Probe,
     score: Score,
     requests: usize,
 }
 
 impl Bench {
-    pub fn new(programs: Programs) -> Bench {
+    pub fn new(probe: Probe) -> Bench {
         Bench {
-            programs,
-            asked: Asked::Probe,
+            probe,
             score: Score::of("requests"),
             requests: 0,
         }
     }
 
-    /// The program that the checks at hand are put to.
-    fn program(&mut self) -> &mut Program {
-        match self.asked {
-            Asked::Probe => &mut self.programs.probe,
-            Asked::Chooser => &mut self.programs.chooser,
-        }
-    }
-
-    /// The program's replies, one for each request.
+    /// The probe's replies, one for each request.
     pub fn ask(&mut self, requests: &[Vec<u8>]) -> Result<Vec<Vec<u8>>, String> {
         self.requests += requests.len();
-        self.program().ask(requests)
+        self.probe.ask(requests)
     }
 
-    /// All that the program makes of an input that is no row of whole
-    /// requests.
+    /// All that the probe makes of an input that is no row of whole requests.
     pub fn converse(&mut self, input: Vec<u8>) -> Result<Ended, String> {
         self.requests += 1;
-        self.program().converse(input)
+        self.probe.converse(input)
     }
 
-    /// Puts the cases to the program; every reply must be the expected one.
+    /// Puts the cases to the probe; every reply must be the expected one.
     pub fn compare(&mut self, cases: &[Case]) -> Result<(), String> {
         for case in cases {
             for outcome in [case.outcome].into_iter().chain(case.counted_too) {
@@ -180,7 +155,6 @@ impl Bench {
         let mut required = Vec::new();
         for layer in layers {
             required.extend(layer.required());
-            self.asked = layer.asked;
             for check in layer.checks {
                 self.requests = 0;
                 let result = (check.work)(&mut self);

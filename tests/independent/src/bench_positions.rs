@@ -4,7 +4,7 @@
 mod messages;
 mod station;
 
-use crate::bench::{Asked, Bench, Case, Check, Layer};
+use crate::bench::{Bench, Case, Check, Layer};
 
 /// A position, in words, and what is put to the probe for it.
 struct Position {
@@ -14,7 +14,6 @@ struct Position {
 
 pub fn layer() -> Layer {
     Layer {
-        asked: Asked::Probe,
         checks: vec![Check::new("bench positions", check)],
         outcomes: Vec::new(),
         often_enough: 0,

@@ -10,7 +10,7 @@ mod single;
 mod verdicts;
 mod wishes;
 
-use crate::bench::{Asked, Layer};
+use crate::bench::Layer;
 
 pub fn layer() -> Layer {
     let mut checks = known::checks();
@@ -21,7 +21,6 @@ pub fn layer() -> Layer {
     checks.extend(long::checks());
     checks.extend(verdicts::checks());
     Layer {
-        asked: Asked::Chooser,
         checks,
         outcomes: requests::outcomes(),
         often_enough: 1000,

@@ -14,7 +14,7 @@ mod writer;
 pub use runs::{flag_pair, reader_case, writer_case, writer_request};
 pub use writer::run_written;
 
-use crate::bench::{Asked, Check, Layer, Requests};
+use crate::bench::{Check, Layer, Requests};
 use std::path::Path;
 
 /// All families of requests to the frame reader.
@@ -44,7 +44,6 @@ pub fn layer(vectors: &Path) -> Layer {
         move |bench| vectors::check(bench, &file)
     }));
     Layer {
-        asked: Asked::Probe,
         checks,
         outcomes: runs::outcomes(),
         often_enough: 100,

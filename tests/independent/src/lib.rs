@@ -1,14 +1,13 @@
 //! An implementation of its own, written apart from the product, and the
-//! programs that put it to use: the comparisons of the probe and the chooser,
-//! of the functions for C and of the listing program with it, and the diagram
-//! of the station's phases as the probe walks them.
+//! programs that put it to use: the comparisons of the probe, of the functions
+//! for C and of the listing program with it, and the tables and the diagram of
+//! the station's phases as the probe walks them.
 //! Each layer of the product has a module of its own with its checks.
 
 mod bench;
 mod bench_positions;
 mod choice;
 mod choice_checks;
-mod chooser;
 #[cfg(feature = "exported")]
 mod exported;
 mod frame;
@@ -19,7 +18,7 @@ mod message;
 mod message_checks;
 mod part_checks;
 mod phases;
-mod program;
+mod probe;
 mod random;
 mod score;
 mod station;
@@ -29,12 +28,13 @@ mod tables;
 mod wire;
 mod wire_checks;
 
-use bench::{Bench, Programs};
+use bench::Bench;
+use probe::Probe;
 use std::path::Path;
 
-/// Compares the programs with the stored vectors in this directory and with
+/// Compares the probe with the stored vectors in this directory and with
 /// the implementation here. True if nothing failed.
-pub fn compare(probe: &Path, chooser: &Path, vectors: &Path) -> bool {
+pub fn compare(probe: &Path, vectors: &Path) -> bool {
     let layers = vec![
         wire_checks::layer(),
         frame_checks::layer(vectors),
@@ -45,11 +45,7 @@ pub fn compare(probe: &Path, chooser: &Path, vectors: &Path) -> bool {
         station_checks::layer(),
         bench_positions::layer(),
     ];
-    let programs = Programs {
-        probe: wire_checks::probe(probe.to_path_buf()),
-        chooser: chooser::program(chooser.to_path_buf()),
-    };
-    Bench::new(programs).run(layers)
+    Bench::new(Probe::new(probe.to_path_buf())).run(layers)
 }
 
 /// Compares the functions of the static library with the implementation here.
@@ -65,7 +61,7 @@ pub fn compare_listings(listing: &Path) -> bool {
     listing_checks::compare(listing)
 }
 
-/// The phases of the probe's station as a Mermaid state diagram.
-pub fn phase_diagram(probe: &Path) -> Result<String, String> {
-    phases::diagram(&mut wire_checks::probe(probe.to_path_buf()))
+/// The phases of the probe's station as tables and a Mermaid state diagram.
+pub fn phases_as_walked(probe: &Path) -> Result<String, String> {
+    phases::tables_and_picture(&mut Probe::new(probe.to_path_buf()))
 }

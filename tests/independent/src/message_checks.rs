@@ -27,7 +27,7 @@ pub use reader_limits::FAMILIES as READER_LIMITS;
 pub use round_trips::message_written;
 pub use shapes::{near_front, random_code};
 
-use crate::bench::{Asked, Check, Layer};
+use crate::bench::{Check, Layer};
 use requests::{Family, Put};
 
 pub fn layer() -> Layer {
@@ -43,7 +43,6 @@ pub fn layer() -> Layer {
     checks.extend(round_trips::checks());
     checks.extend(malformed::checks());
     Layer {
-        asked: Asked::Probe,
         checks,
         outcomes: requests::outcomes(),
         often_enough: 100,

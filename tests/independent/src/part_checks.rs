@@ -5,7 +5,7 @@ mod known;
 mod made_up;
 mod requests;
 
-use crate::bench::{Asked, Layer};
+use crate::bench::Layer;
 use crate::message_checks::on_messages;
 
 pub fn layer() -> Layer {
@@ -13,7 +13,6 @@ pub fn layer() -> Layer {
     checks.extend(on_messages("NS part", requests::put));
     checks.extend(made_up::checks());
     Layer {
-        asked: Asked::Chooser,
         checks,
         outcomes: requests::outcomes(),
         often_enough: 100,

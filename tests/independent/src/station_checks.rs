@@ -10,7 +10,7 @@ mod steps;
 mod struck;
 mod transactions;
 
-use crate::bench::{Asked, Layer};
+use crate::bench::Layer;
 
 pub fn layer() -> Layer {
     let mut checks = known::checks();
@@ -19,7 +19,6 @@ pub fn layer() -> Layer {
     checks.extend(transactions::checks());
     checks.extend(malformed::checks());
     Layer {
-        asked: Asked::Probe,
         checks,
         outcomes: requests::outcomes(),
         often_enough: 1000,

@@ -10,7 +10,7 @@ mod single;
 
 pub use requests::{case, request};
 
-use crate::bench::{Asked, Layer};
+use crate::bench::Layer;
 use crate::message_checks::on_messages;
 
 pub fn layer() -> Layer {
@@ -22,7 +22,6 @@ pub fn layer() -> Layer {
     checks.extend(again::checks());
     checks.extend(malformed::checks());
     Layer {
-        asked: Asked::Probe,
         checks,
         outcomes: requests::outcomes(),
         often_enough: 1000,

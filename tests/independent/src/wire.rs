@@ -100,9 +100,7 @@ pub fn joined(requests: &[Vec<u8>]) -> Vec<u8> {
 
 /// The whole replies at the front of an output, and the number of octets left
 /// over behind them.
-pub type Separated = (Vec<Vec<u8>>, usize);
-
-pub fn separated(output: &[u8]) -> Separated {
+pub fn separated(output: &[u8]) -> (Vec<Vec<u8>>, usize) {
     let mut fields = Fields::of(output);
     let mut replies = Vec::new();
     let mut left_over = output.len();

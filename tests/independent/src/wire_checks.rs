@@ -1,11 +1,9 @@
 //! Checks of the probe's row of requests as such: what is no request gets the
 //! reply FF, what is no whole request gets none.
 
-use crate::bench::{Asked, Bench, Case, Check, Layer, Outcome};
-use crate::program::{Manner, Program};
+use crate::bench::{Bench, Case, Check, Layer, Outcome};
 use crate::random::Random;
 use crate::wire;
-use std::path::PathBuf;
 
 const NO_REQUEST: u8 = 0xFF;
 
@@ -19,7 +17,6 @@ const MALFORMED: Outcome = Outcome {
 
 pub fn layer() -> Layer {
     Layer {
-        asked: Asked::Probe,
         checks: vec![
             Check::of_cases("requests: empty", empty),
             Check::of_cases("requests: unknown operation", unknown_operation),
@@ -29,15 +26,6 @@ pub fn layer() -> Layer {
         outcomes: vec![MALFORMED],
         often_enough: 100,
     }
-}
-
-/// The probe: each request and each reply stands behind its length.
-pub fn probe(file: PathBuf) -> Program {
-    let manner = Manner {
-        joined: wire::joined,
-        separated: wire::separated,
-    };
-    Program::new("probe", file, manner)
 }
 
 /// The case of a request that must get the reply FF.
@@ -87,8 +75,10 @@ fn empty(_: &mut Random) -> Vec<Case> {
     (0..20).map(|_| malformed(Vec::new())).collect()
 }
 
+/// Each operation that there is not, and some of them once more.
 fn unknown_operation(random: &mut Random) -> Vec<Case> {
-    let operations = std::iter::once(0).chain(7..=255);
+    let is_unknown = |operation: &u8| !matches!(operation, 1..=6 | 32..=37);
+    let operations = (0..=255).filter(is_unknown).cycle().take(250);
     let request = |operation: u8| {
         let length = random.pick(&[0, 1, 4, 8, 100]);
         [vec![operation], random.octets(length)].concat()

@@ -1,4 +1,5 @@
-//! Prints the phases of the probe's station as a Mermaid state diagram.
+//! Prints the phases of the probe's station: what docs/PHASES.md has from its
+//! first table on.
 //!
 //! `phases PROBE` starts the program PROBE and walks every phase, event and
 //! setting through it.
@@ -12,9 +13,9 @@ fn main() -> ExitCode {
         eprintln!("usage: phases PROBE");
         return ExitCode::from(2);
     };
-    match compare::phase_diagram(probe) {
-        Ok(diagram) => {
-            print!("{diagram}");
+    match compare::phases_as_walked(probe) {
+        Ok(page) => {
+            print!("{page}");
             ExitCode::SUCCESS
         }
         Err(reason) => {

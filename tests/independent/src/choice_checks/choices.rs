@@ -212,7 +212,7 @@ fn anything(random: &mut Random) -> Vec<Case> {
     (0..5000).map(case).collect()
 }
 
-/// The chooser must make the same of a list that was struck and of one that
+/// The probe must make the same of a list that was struck and of one that
 /// was not.
 fn struck_or_not(bench: &mut Bench) -> Result<(), String> {
     let random = &mut Random::named(STRUCK_OR_NOT);

@@ -45,9 +45,9 @@ const CHECKED: [(&str, &str, u8); 24] = [
 
 /// Wishes and the reply without a far list.
 const FIRST_READY: [(&str, &str); 3] = [
-    ("", "0B 00 0000 0000 0000"),
-    ("00 04 80 81 02 D0", "0B 00 0000 0000 0000"),
-    ("00 04 80 81 02 D0 01 03 80 A0 C1", "00 02 0800 0300 0000"),
+    ("", "0B 00 0000 0000"),
+    ("00 04 80 81 02 D0", "0B 00 0000 0000"),
+    ("00 04 80 81 02 D0 01 03 80 A0 C1", "00 02 0800 0300"),
 ];
 
 /// Wishes, far list, place of its S field, reply.
@@ -56,38 +56,28 @@ const CHOSEN: [(&str, &str, usize, &str); 6] = [
         "01 04 80 81 02 D0",
         "22 81 80 80 A1 02 D0 C0",
         3,
-        "00 01 0200 0400 0000",
+        "00 01 0200 0400",
     ),
     (
         "01 04 80 81 02 D0",
         "32 91 80 80 21 84 02 D0 C0 41 42 C4",
         3,
-        "00 01 0200 0400 0000",
+        "00 01 0200 0400",
     ),
     (
         "01 03 80 A0 C1 01 04 80 81 02 D0",
         "22 80 81 C1 80 A1 02 D0 C0",
         4,
-        "00 02 0700 0400 0000",
+        "00 02 0700 0400",
     ),
     (
         "00 04 80 81 02 D0 01 03 80 A0 C1",
         "22 80 80 80 A1 02 D0 C0",
         3,
-        "0B 00 0000 0000 0000",
+        "0B 00 0000 0000",
     ),
-    (
-        "01 03 80 81 C1",
-        "22 80 80 80 81 C1",
-        3,
-        "0B 00 0000 0000 0000",
-    ),
-    (
-        "01 03 80 81 C2",
-        "22 80 80 80 81 C1",
-        3,
-        "0B 00 0000 0000 0000",
-    ),
+    ("01 03 80 81 C1", "22 80 80 80 81 C1", 3, "0B 00 0000 0000"),
+    ("01 03 80 81 C2", "22 80 80 80 81 C1", 3, "0B 00 0000 0000"),
 ];
 
 /// Wishes, MS, place of its S field, number.
@@ -129,8 +119,7 @@ fn known_cases() -> Result<Vec<Case>, String> {
     let own = written_out(OWN);
     let mut cases = Vec::new();
     for (own, wishes, number) in CHECKED {
-        let reply = [number, 0, 0, 0, 0, 0, 0, 0];
-        cases.push(check(&written_out(own), &written_out(wishes)).known(&reply)?);
+        cases.push(check(&written_out(own), &written_out(wishes)).known(&[number])?);
     }
     for (wishes, reply) in FIRST_READY {
         cases.push(first_ready(&own, &written_out(wishes)).known(&written_out(reply))?);
@@ -141,7 +130,7 @@ fn known_cases() -> Result<Vec<Case>, String> {
     }
     for (wishes, selection, place, number) in JUDGED {
         let case = verdict(&own, &written_out(wishes), &far(selection, place));
-        cases.push(case.known(&[number, 0, 0, 0, 0, 0, 0, 0])?);
+        cases.push(case.known(&[number])?);
     }
     Ok(cases)
 }
@@ -155,13 +144,27 @@ mod tests {
         assert_eq!(known_cases().map(|cases| cases.len()), Ok(43));
     }
 
-    /// Own table of 5 octets, far list of 8 with S from place 3 on, wishes of
-    /// 6 octets.
+    /// Own table of 5 octets, wishes of 6 octets, far list of 8 with S from
+    /// place 3 on.
     #[test]
-    fn request_octet_by_octet() {
+    fn requests_octet_by_octet() {
+        let own = written_out(OWN);
+        let wishes = written_out("01 04 80 81 02 D0");
         let list = far("22 81 80 80 A1 02 D0 C0", 3);
-        let case = choice(&written_out(OWN), &written_out("01 04 80 81 02 D0"), &list);
-        let due = "03 05 08 03 06 00 80 A1 02 D0 C1 01 04 80 81 02 D0 22 81 80 80 A1 02 D0 C0";
-        assert_eq!(case.request, written_out(due));
+        let requests = [
+            check(&own, &wishes),
+            first_ready(&own, &wishes),
+            choice(&own, &wishes, &list),
+            verdict(&own, &wishes, &list),
+        ];
+        let due = [
+            "20 0500 80 A1 02 D0 C1 0600 01 04 80 81 02 D0",
+            "21 0600 01 04 80 81 02 D0",
+            "22 0500 80 A1 02 D0 C1 0600 01 04 80 81 02 D0 0800 22 81 80 80 A1 02 D0 C0 03",
+            "23 0600 01 04 80 81 02 D0 0800 22 81 80 80 A1 02 D0 C0 03",
+        ];
+        for (case, due) in requests.iter().zip(due) {
+            assert_eq!(case.request, written_out(due));
+        }
     }
 }

@@ -1,12 +1,12 @@
-//! Requests to the chooser, and their cases.
+//! Requests for own tables, wishes, choice and verdict, and their cases.
 
 use crate::bench::{Case, Outcome};
 use crate::choice::{Choice, Verdict};
-use crate::chooser::{reply, wish_reply, Request};
 use crate::message;
 use crate::message_checks::layout::Layout;
 use crate::message_checks::requests::MOST_OCTETS;
 use crate::tables::{self, Tables};
+use crate::wire::Row;
 
 const NO_CHOICE: u8 = 11;
 
@@ -17,19 +17,19 @@ struct Operation {
 }
 
 const CHECK: Operation = Operation {
-    number: 1,
+    number: 32,
     name: "own table and wishes",
     replies: &[0, 2, 3, 4],
 };
 
 const FIRST_READY: Operation = Operation {
-    number: 2,
+    number: 33,
     name: "choice without far list",
     replies: &[0, NO_CHOICE],
 };
 
 const CHOICE: Operation = Operation {
-    number: 3,
+    number: 34,
     name: "choice",
     replies: &[0, NO_CHOICE],
 };
@@ -41,7 +41,7 @@ const CHOICE_FROM_LONG: Operation = Operation {
 };
 
 const VERDICT: Operation = Operation {
-    number: 4,
+    number: 35,
     name: "verdict",
     replies: &[0, 2, 3],
 };
@@ -63,11 +63,6 @@ pub struct Far {
 }
 
 impl Far {
-    const NONE: Far = Far {
-        octets: Vec::new(),
-        place: 0,
-    };
-
     pub fn of(layout: &Layout) -> Far {
         Far {
             octets: layout.octets(),
@@ -104,30 +99,38 @@ impl Operation {
         }
     }
 
-    fn request(&self, own: &[u8], wishes: &[u8], far: &Far) -> Vec<u8> {
-        let request = Request {
-            operation: self.number,
-            own,
-            wishes,
-            far: &far.octets,
-            place: far.place as u8,
-        };
-        request.octets()
+    /// A request that has these runs.
+    fn request(&self, runs: &[&[u8]]) -> Row {
+        let row = Row::new().u8(self.number);
+        runs.iter().fold(row, |row, run| row.run(run))
+    }
+
+    /// The same with the far octets, and the place of the S field there.
+    fn far_request(&self, runs: &[&[u8]], far: &Far) -> Row {
+        let row = self.request(runs).run(&far.octets);
+        row.u8(u8::try_from(far.place).expect("a place below 256"))
     }
 
     /// The case of a request that is answered with a number alone.
-    fn case(&self, request: Vec<u8>, number: u8) -> Case {
-        Case::new(request, reply(number, &[]), self.outcome(number))
+    fn case(&self, request: Row, number: u8) -> Case {
+        Case::new(request.done(), vec![number], self.outcome(number))
     }
 
     /// The case of a request that is answered with a wish, or without one.
-    fn choice_case(&self, request: Vec<u8>, choice: Option<Choice>) -> Case {
-        let Some(Choice { number, wish }) = choice else {
-            return self.case(request, NO_CHOICE);
+    fn choice_case(&self, request: Row, choice: Option<Choice>) -> Case {
+        let (reply, number) = match choice {
+            Some(choice) => (wish_reply(&choice), 0),
+            None => (Row::new().u8(NO_CHOICE).octets(&[0; 5]), NO_CHOICE),
         };
-        let reply = wish_reply(number, wish.place, wish.length);
-        Case::new(request, reply, self.outcome(0))
+        Case::new(request.done(), reply.done(), self.outcome(number))
     }
+}
+
+/// The reply with a wish: its number, and place and length of its field.
+fn wish_reply(choice: &Choice) -> Row {
+    let Choice { number, wish } = choice;
+    let row = Row::new().u8(0).u8(*number as u8);
+    row.u16(wish.place as u16).u16(wish.length as u16)
 }
 
 fn good_tables(own: &[u8], wishes: &[u8]) -> Tables {
@@ -136,14 +139,14 @@ fn good_tables(own: &[u8], wishes: &[u8]) -> Tables {
 
 /// Octets of any kind as own table and wishes.
 pub fn check(own: &[u8], wishes: &[u8]) -> Case {
-    let request = CHECK.request(own, wishes, &Far::NONE);
+    let request = CHECK.request(&[own, wishes]);
     CHECK.case(request, tables::check(own, wishes))
 }
 
 /// The choice without a far list.
 pub fn first_ready(own: &[u8], wishes: &[u8]) -> Case {
     let tables = good_tables(own, wishes);
-    let request = FIRST_READY.request(own, wishes, &Far::NONE);
+    let request = FIRST_READY.request(&[wishes]);
     FIRST_READY.choice_case(request, tables.first_ready())
 }
 
@@ -151,7 +154,8 @@ pub fn first_ready(own: &[u8], wishes: &[u8]) -> Case {
 pub fn choice(own: &[u8], wishes: &[u8], far: &Far) -> Case {
     let tables = good_tables(own, wishes);
     let choice = tables.first_ready_common(&far.list_parameters());
-    let case = CHOICE.choice_case(CHOICE.request(own, wishes, far), choice);
+    let request = CHOICE.far_request(&[own, wishes], far);
+    let case = CHOICE.choice_case(request, choice);
     let is_long = far.field().len() > MOST_OCTETS;
     let number = case.outcome.number;
     case.counted_too(is_long.then(|| CHOICE_FROM_LONG.outcome(number)))
@@ -164,5 +168,5 @@ pub fn verdict(own: &[u8], wishes: &[u8], far: &Far) -> Case {
         Verdict::NotReady => 2,
         Verdict::Unfit => 3,
     };
-    VERDICT.case(VERDICT.request(own, wishes, far), number)
+    VERDICT.case(VERDICT.far_request(&[wishes], far), number)
 }

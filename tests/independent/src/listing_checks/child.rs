@@ -1,6 +1,6 @@
 //! One run of the listing program on one input.
 
-use crate::program::read_in_time;
+use crate::probe::read_in_time;
 use std::io::{self, PipeWriter, Read, Write};
 use std::path::Path;
 use std::process::{Command, ExitStatus};

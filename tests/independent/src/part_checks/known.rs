@@ -1,9 +1,8 @@
 //! NS whose octets are known beforehand: on paper, or from the way the
 //! message was laid out.
 
-use super::requests::{made_up, read, Span};
+use super::requests::{made_up, read, reply, Span};
 use crate::bench::{Bench, Case, Check};
-use crate::chooser::reply;
 use crate::message_checks::layout::Layout;
 use crate::random::Random;
 use crate::wire::written_out;
@@ -97,13 +96,13 @@ mod tests {
     #[test]
     fn requests_octet_by_octet() {
         let message = written_out(MESSAGE);
-        let due = "05 00 08 00 0000 21 C0 80 80 80 02 AA BB";
+        let due = "24 0800 21 C0 80 80 80 02 AA BB";
         assert_eq!(read(&message).request, written_out(due));
         let span = Span {
             place: 5,
             length: 259,
         };
-        let due = "06 10 08 04 0000 0500000000000000 0301000000000000 21 C0 80 80 80 02 AA BB";
+        let due = "25 0800 21 C0 80 80 80 02 AA BB 04 0500000000000000 0301000000000000";
         assert_eq!(made_up(4, span, &message).request, written_out(due));
     }
 }

@@ -1,13 +1,12 @@
-//! Requests to the chooser for the NS of a message, and their cases.
+//! Requests for the NS of a message, and their cases.
 
 use crate::bench::{Case, Outcome};
-use crate::chooser::{reply, Request};
 use crate::message;
 use crate::random::Random;
 use crate::wire::Row;
 
-const OF_READING: u8 = 5;
-const OF_MADE_UP: u8 = 6;
+const OF_READING: u8 = 36;
+const OF_MADE_UP: u8 = 37;
 
 const READING: &str = "NS part by the reader's answer";
 const MADE_UP: &str = "NS part by an answer made up";
@@ -45,11 +44,7 @@ impl Span {
 /// The NS that the reader's answer hands back: as it came, and none with a
 /// refusal.
 pub fn read(message: &[u8]) -> Case {
-    let request = Request {
-        operation: OF_READING,
-        far: message,
-        ..Request::default()
-    };
+    let request = Row::new().u8(OF_READING).run(message);
     let (number, part, counted_too) = match message::non_standard(message) {
         Ok(part) if part.is_empty() => (0, part, Some(NOT_THERE)),
         Ok(part) => (0, part, Some(THERE)),
@@ -65,14 +60,8 @@ pub fn put(_: &mut Random, message: &[u8]) -> Case {
 /// The NS of an answer with this number that says where NS lies: the octets
 /// there, and none where they are not all there or with a refusal.
 pub fn made_up(number: u8, span: Span, message: &[u8]) -> Case {
-    let own = Row::new().u64(span.place).u64(span.length).done();
-    let request = Request {
-        operation: OF_MADE_UP,
-        own: &own,
-        far: message,
-        place: number,
-        ..Request::default()
-    };
+    let request = Row::new().u8(OF_MADE_UP).run(message).u8(number);
+    let request = request.u64(span.place).u64(span.length);
     let (part, counted_too) = match span.part_of(message) {
         _ if number != 0 => (&[][..], None),
         Some(part) => (part, Some(INSIDE)),
@@ -81,14 +70,19 @@ pub fn made_up(number: u8, span: Span, message: &[u8]) -> Case {
     case(MADE_UP, request, number, part, counted_too)
 }
 
+/// The reply with a number and this NS.
+pub fn reply(number: u8, part: &[u8]) -> Vec<u8> {
+    Row::new().u8(number).run(part).done()
+}
+
 fn case(
     operation: &'static str,
-    request: Request,
+    request: Row,
     number: u8,
     part: &[u8],
     counted_too: Option<&'static str>,
 ) -> Case {
     let outcome = Outcome { operation, number };
-    let case = Case::new(request.octets(), reply(number, part), outcome);
+    let case = Case::new(request.done(), reply(number, part), outcome);
     case.counted_too(counted_too.map(|operation| Outcome { operation, number }))
 }

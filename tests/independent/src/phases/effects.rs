@@ -2,7 +2,7 @@
 //! of them decide.
 
 use super::causes::{Cause, Stimulus, OWN_TABLE};
-use crate::program::Program;
+use crate::probe::Probe;
 use crate::station::number::{NO_CHOICE, SUCCESS, TIMED_OUT};
 use crate::station::words::*;
 use crate::station::{Answer, Situation, State, OUTPUT_ROOM, PATIENCE, STORE_ROOM};
@@ -18,18 +18,11 @@ const FACTORS: [&[&str]; 9] = [
     &["V.8 off", "V.8 on"],
     &["Short V.8 off", "Short V.8 on"],
     &["ACK off", "ACK on"],
-    &[
-        "set to answer MR_e with MS",
-        "set to answer MR_e with MR_d",
-        "set to answer MR_e with CR_d",
-    ],
-    &["set to answer CR_d with CL", "set to answer CR_d with CLR"],
-    &[
-        "set to answer CR_e like CR_d",
-        "set to answer CR_e with CR_d",
-    ],
-    &["set to answer MR_d with MS", "set to answer MR_d with CR_d"],
-    &["with a choice", "without a choice"],
+    &["MR_e set to MS", "MR_e set to MR_d", "MR_e set to CR_d"],
+    &["CR_d set to CL", "CR_d set to CLR"],
+    &["CR_e set as CR_d", "CR_e set to CR_d"],
+    &["MR_d set to MS", "MR_d set to CR_d"],
+    &["a choice", "no choice"],
     &["ACK(1) not asked for", "ACK(1) asked for"],
 ];
 const CHOICE: usize = 7;
@@ -38,45 +31,50 @@ const ACK_ASKED: usize = 8;
 /// One value of each factor.
 type Values = [usize; FACTORS.len()];
 
+/// A phase entered, with what was sent and the number told, or nothing but a
+/// refusal.
 #[derive(Clone, Debug, PartialEq, Eq, PartialOrd, Ord)]
-pub struct Effect {
-    pub next: Phase,
-    pub sent: String,
+pub enum Effect {
+    Entered {
+        next: Phase,
+        sent: String,
+        number: u8,
+    },
+    Refused(u8),
 }
 
 /// An effect, and in words when it comes.
-#[derive(Clone, Debug, PartialEq)]
-pub struct Arrow {
-    pub heard: String,
+pub struct Way {
+    /// The name of what does so, where not all of its cause do the same.
+    pub apart: Option<String>,
     pub when: String,
     pub effect: Effect,
 }
 
-/// The arrows that lead away from the phase, with one name for all that does
-/// the same.
-pub fn arrows(probe: &mut Program, phase: Phase, cause: &Cause) -> Result<Vec<Arrow>, String> {
+/// All that may come of the cause in the phase.
+pub fn ways(probe: &mut Probe, phase: Phase, cause: &Cause) -> Result<Vec<Way>, String> {
     let mut of_stimuli = Vec::new();
     for stimulus in &cause.stimuli {
         let effects = effects(probe, phase, stimulus)?;
         of_stimuli.push(decided(&effects));
     }
-    let alike = of_stimuli.iter().all(|arrows| *arrows == of_stimuli[0]);
-    let named = |name: &String, arrows: &Decided| -> Vec<Arrow> {
-        let arrow = |(effect, when): (&Effect, &String)| Arrow {
-            heard: name.clone(),
-            when: when.clone(),
-            effect: effect.clone(),
-        };
-        arrows.iter().map(arrow).collect()
-    };
-    if alike {
-        return Ok(named(&cause.name, &of_stimuli[0]));
+    if of_stimuli.iter().all(|ways| *ways == of_stimuli[0]) {
+        return Ok(named(None, &of_stimuli[0]));
     }
     let names = cause.stimuli.iter().map(|stimulus| &stimulus.name);
     let apart = names.zip(&of_stimuli);
     Ok(apart
-        .flat_map(|(name, arrows)| named(name, arrows))
+        .flat_map(|(name, ways)| named(Some(name), ways))
         .collect())
+}
+
+fn named(apart: Option<&String>, decided: &Decided) -> Vec<Way> {
+    let way = |(effect, when): (&Effect, &String)| Way {
+        apart: apart.cloned(),
+        when: when.clone(),
+        effect: effect.clone(),
+    };
+    decided.iter().map(way).collect()
 }
 
 fn all_values() -> Vec<Values> {
@@ -115,11 +113,10 @@ fn situation(phase: Phase, stimulus: &Stimulus, values: &Values) -> Situation {
     }
 }
 
-type Effects = BTreeMap<Values, Option<Effect>>;
+type Effects = BTreeMap<Values, Effect>;
 
-/// What comes of the stimulus with all values; nothing where it is refused
-/// and the phase stays.
-fn effects(probe: &mut Program, phase: Phase, stimulus: &Stimulus) -> Result<Effects, String> {
+/// What comes of the stimulus with all values.
+fn effects(probe: &mut Probe, phase: Phase, stimulus: &Stimulus) -> Result<Effects, String> {
     let all = all_values();
     let situations: Vec<Situation> = all
         .iter()
@@ -134,27 +131,28 @@ fn effects(probe: &mut Program, phase: Phase, stimulus: &Stimulus) -> Result<Eff
             let [request, reply] = [&asked[place], &replies[place]].map(|row| wire::hex(row));
             format!("no reply of a station: request {request}, reply {reply}")
         })?;
-        effects.insert(values, effect(&answer));
+        effects.insert(values, effect(&situations[place].state, &answer));
     }
     Ok(effects)
 }
 
-fn effect(answer: &Answer) -> Option<Effect> {
+fn effect(before: &State, answer: &Answer) -> Effect {
+    let after = &answer.state;
+    let stays = after.phase == before.phase && after.entry == before.entry;
+    if stays && !matches!(answer.number, SUCCESS | TIMED_OUT | NO_CHOICE) {
+        return Effect::Refused(answer.number);
+    }
     let kinds = answer
         .fields
         .iter()
         .filter_map(|field| Kind::of_octet(field[0]));
     let signals = answer.signal.into_iter().map(Signal::name);
     let sent: Vec<&str> = signals.chain(kinds.map(Kind::name)).collect();
-    let sent = match sent.is_empty() {
-        true => "sends nothing".to_string(),
-        false => format!("sends {}", sent.join(" then ")),
-    };
-    let enters = matches!(answer.number, SUCCESS | TIMED_OUT | NO_CHOICE);
-    enters.then_some(Effect {
-        next: answer.state.phase,
-        sent,
-    })
+    Effect::Entered {
+        next: after.phase,
+        sent: sent.join(" then "),
+        number: answer.number,
+    }
 }
 
 /// Each effect, and in words when it comes.
@@ -163,9 +161,7 @@ type Decided = BTreeMap<Effect, String>;
 fn decided(effects: &Effects) -> Decided {
     let mut values_of: BTreeMap<&Effect, BTreeSet<Values>> = BTreeMap::new();
     for (values, effect) in effects {
-        if let Some(effect) = effect {
-            values_of.entry(effect).or_default().insert(*values);
-        }
+        values_of.entry(effect).or_default().insert(*values);
     }
     let words = |(effect, all): (&Effect, BTreeSet<Values>)| (effect.clone(), in_words(&all));
     values_of.into_iter().map(words).collect()
@@ -210,12 +206,12 @@ mod tests {
     fn only_what_decides_is_said() {
         assert_eq!(in_words(&those(|_| true)), "");
         let without = those(|values| values[CHOICE] == 1);
-        assert_eq!(in_words(&without), "without a choice");
+        assert_eq!(in_words(&without), "no choice");
         let both = those(|values| values[4] == 1 && values[5] == 0);
-        let due = "set to answer CR_d with CLR, set to answer CR_e like CR_d";
+        let due = "CR_d set to CLR, CR_e set as CR_d";
         assert_eq!(in_words(&both), due);
         let two = those(|values| values[3] != 0);
-        let due = "set to answer MR_e with CR_d or set to answer MR_e with MR_d";
+        let due = "MR_e set to CR_d or MR_e set to MR_d";
         assert_eq!(in_words(&two), due);
     }
 }

@@ -1,22 +1,23 @@
--- `wire::put_octets` is safe and ends. The loop's invariant: the slice written to keeps its length. The measure is what is left to take.
+-- `wire::put_octets` is safe and ends. The measure is what is left of the reply's room, and nothing has to hold from turn to turn.
 -- Assumes nothing.
 use Prim.Native.Nat.{_-_}
-use mathlib.Core.Path.{_≡_}
 use native.Mathlib.Omega.{arith}
-use lib.ListN.{length}
 use borrow.Author.Needs.{needs}
 use borrow.Author.Tests.{ltb-true}
 use Rattle.probe.proofs.wire.put_octets.Statement.{statement}
 use Rattle.probe.proofs.wire.put_octets.Tie as tie
 
 abbrev Inv-loop : tie.InvT-loop
-Inv-loop to₀ at octets next₀ taken₀ to next taken = length to ≡ length to₀
+Inv-loop octets all₀ length₀ taken₀ all length taken = Unit {0}
 
 abbrev μ-loop : tie.MeasureT-loop
-μ-loop to₀ at octets next₀ taken₀ to next taken = length octets - taken
+μ-loop octets all₀ length₀ taken₀ all length taken = 4096 - length
 
-add-next : tie.Need-add-next Inv-loop μ-loop
-add-next c = omega (arith, ltb-true)
+add-length : tie.Need-add-length Inv-loop μ-loop
+add-length c = omega (arith, ltb-true)
+
+loop-less : tie.Need-loop-less Inv-loop μ-loop
+loop-less c = omega (arith, ltb-true)
 
 pub put-octets-spec : {M : Type 1} → statement M
 put-octets-spec =
@@ -28,10 +29,8 @@ put-octets-spec =
     (λ c. search needs)
     (λ c. search needs)
     (λ c. search needs)
-    add-next
-    (λ c. search needs)
-    (λ c. search needs)
-    (λ c. search needs)
+    add-length
+    loop-less
     (λ c. search needs)
     (λ c. search needs)
     (λ c. search needs))

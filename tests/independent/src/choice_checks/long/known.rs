@@ -14,7 +14,7 @@ pub fn checks() -> Vec<Check> {
 /// Data with V.42 and V.34, H.324 with its SPar(2).
 const OWN: &str = "80 85 02 D0 40 41 C0";
 
-const NO_CHOICE: &str = "0B 00 0000 0000 0000";
+const NO_CHOICE: &str = "0B 00 0000 0000";
 
 /// The octets of a far run up to a row of empty ones, the length of that row,
 /// the octets behind it, and whether there is a choice.
@@ -34,7 +34,7 @@ static KNOWN: [Known; 5] = [
     // in the last run.
     Known {
         wishes: "01 03 80 81 C0",
-        reply: "00 01 0200 0300 0000",
+        reply: "00 01 0200 0300",
         place: 0,
         runs: &[
             ("80 81", 84, "E0", true),
@@ -49,7 +49,7 @@ static KNOWN: [Known; 5] = [
     // H.324: the same with a wish for that SPar(2); then SPar(2) and NPar(3).
     Known {
         wishes: "01 05 80 84 40 41 C0",
-        reply: "00 01 0200 0500 0000",
+        reply: "00 01 0200 0500",
         place: 0,
         runs: &[
             ("80 84", 85, "C1", false),
@@ -64,7 +64,7 @@ static KNOWN: [Known; 5] = [
     // V.42 and V.34: NPar(1) and SPar(1) of 73 and 74 octets.
     Known {
         wishes: "01 04 80 81 02 D0",
-        reply: "00 01 0200 0400 0000",
+        reply: "00 01 0200 0400",
         place: 0,
         runs: &[
             ("", 72, "80 81 02 D0", true),
@@ -78,7 +78,7 @@ static KNOWN: [Known; 5] = [
     // Behind the first octet and I of a CL; V.34 is missing in one.
     Known {
         wishes: "01 04 80 81 02 D0",
-        reply: "00 01 0200 0400 0000",
+        reply: "00 01 0200 0400",
         place: 3,
         runs: &[
             ("22 81 80 80 81 02 10", 60, "C0", true),
@@ -89,7 +89,7 @@ static KNOWN: [Known; 5] = [
     // The second of two wishes.
     Known {
         wishes: "01 04 80 81 02 D0 01 03 80 81 C0",
-        reply: "00 02 0800 0300 0000",
+        reply: "00 02 0800 0300",
         place: 0,
         runs: &[("80 81 02 00", 60, "C0", true)],
     },

@@ -1,7 +1,7 @@
-//! A program under comparison as a child process: requests go to its standard
-//! input, replies come from its standard output.
+//! The probe as a child process: requests go to its standard input, replies
+//! come from its standard output.
 
-use crate::wire::{self, Separated};
+use crate::wire;
 use std::io::{self, Read, Write};
 use std::path::PathBuf;
 use std::process::{Command, Stdio};
@@ -9,42 +9,32 @@ use std::sync::mpsc;
 use std::thread;
 use std::time::Duration;
 
-/// Far more than any row of requests needs; a program that hangs is ended then.
+/// Far more than any row of requests needs; a probe that hangs is ended then.
 const PATIENCE: Duration = Duration::from_secs(60);
 
-/// How requests stand in a row, and how the replies are told apart.
-pub struct Manner {
-    pub joined: fn(&[Vec<u8>]) -> Vec<u8>,
-    pub separated: fn(&[u8]) -> Separated,
-}
-
-pub struct Program {
-    name: &'static str,
+pub struct Probe {
     file: PathBuf,
-    manner: Manner,
     has_hung: bool,
 }
 
-/// What a program left behind: all it wrote, and how it ended.
+/// What the probe left behind: all it wrote, and how it ended.
 pub struct Ended {
     pub output: Vec<u8>,
     pub well: bool,
 }
 
-impl Program {
-    pub fn new(name: &'static str, file: PathBuf, manner: Manner) -> Program {
-        Program {
-            name,
+impl Probe {
+    pub fn new(file: PathBuf) -> Probe {
+        Probe {
             file,
-            manner,
             has_hung: false,
         }
     }
 
-    /// Starts the program, gives it the requests and takes one reply for each.
+    /// Starts the probe, gives it the requests and takes one reply for each.
     pub fn ask(&mut self, requests: &[Vec<u8>]) -> Result<Vec<Vec<u8>>, String> {
-        let ended = self.converse((self.manner.joined)(requests))?;
-        let (replies, left_over) = (self.manner.separated)(&ended.output);
+        let ended = self.converse(wire::joined(requests))?;
+        let (replies, left_over) = wire::separated(&ended.output);
         if let Some(unanswered) = requests.get(replies.len()) {
             return Err(format!(
                 "{} replies to {} requests, no reply to request {}",
@@ -54,39 +44,36 @@ impl Program {
             ));
         }
         if replies.len() > requests.len() || left_over > 0 {
-            return Err(format!("the {} wrote more than its replies", self.name));
+            return Err("the probe wrote more than its replies".to_string());
         }
         if !ended.well {
-            return Err(format!("the {} ended with a failure status", self.name));
+            return Err("the probe ended with a failure status".to_string());
         }
         Ok(replies)
     }
 
-    /// Starts the program and gives it the input to its end. Writing has a
+    /// Starts the probe and gives it the input to its end. Writing has a
     /// thread of its own, since a full pipe would stop both programs.
     pub fn converse(&mut self, input: Vec<u8>) -> Result<Ended, String> {
         if self.has_hung {
-            return Err(format!(
-                "not asked, since the {} has hung before",
-                self.name
-            ));
+            return Err("not asked, since the probe has hung before".to_string());
         }
         let mut child = Command::new(&self.file)
             .stdin(Stdio::piped())
             .stdout(Stdio::piped())
             .spawn()
-            .map_err(|error| format!("the {} does not start: {error}", self.name))?;
-        let mut to_program = child.stdin.take().expect("standard input is piped");
+            .map_err(|error| format!("the probe does not start: {error}"))?;
+        let mut to_probe = child.stdin.take().expect("standard input is piped");
         thread::spawn(move || {
-            // A program that stops reading early is noticed by its replies.
-            let _ = to_program.write_all(&input);
+            // A probe that stops reading early is noticed by its replies.
+            let _ = to_probe.write_all(&input);
         });
-        let from_program = child.stdout.take().expect("standard output is piped");
-        let Some(output) = read_in_time(from_program, PATIENCE) else {
+        let from_probe = child.stdout.take().expect("standard output is piped");
+        let Some(output) = read_in_time(from_probe, PATIENCE) else {
             self.has_hung = true;
             let ended = child.kill().and_then(|()| child.wait());
             ended.map_err(|error| error.to_string())?;
-            return Err(format!("the {} does not end with its input", self.name));
+            return Err("the probe does not end with its input".to_string());
         };
         let status = child.wait().map_err(|error| error.to_string())?;
         let output = output.map_err(|error| error.to_string())?;
