@@ -47,19 +47,49 @@ file == 3 { stack_name[++stacks] = $1; function_of[stacks] = $2; stack_ours[stac
 
 file == 4 { text_ours[$1] = $3; rodata_ours[$1] = $4; text_plain[$1] = $5; rodata_plain[$1] = $6 }
 
+# A table: its head and its rows, cells apart by |. A column that has "-" in every row is not printed.
+function head(cells) { delete filled; rows = 0; columns = split(cells, heads, "|") }
+
+function row(cells, cell, c) {
+    row_of[++rows] = cells
+    split(cells, cell, "|")
+    for (c = 1; c <= columns; c++)
+        if (cell[c] != "-")
+            filled[c] = 1
+}
+
+function printed(cell, c, line) {
+    line = "|"
+    for (c = 1; c <= columns; c++)
+        if (c in filled)
+            line = line " " cell[c] " |"
+    print line
+}
+
+function print_table(cell, r, rule) {
+    printed(heads)
+    for (r in filled)
+        rule = rule "|---"
+    print rule "|"
+    for (r = 1; r <= rows; r++) {
+        split(row_of[r], cell, "|")
+        printed(cell)
+    }
+}
+
 function frame_row(i, key, ours, plain, other) {
     key = keys[i]
     ours = cost[key, "ours"]
     plain = cost[key, "plain"]
     other = cost[key, "spandsp"]
-    printf "| %s | %s | %d | %s | %s | %s | %.1f | %.1f | %s | %s |\n", operation[i], on[i], units[key], grouped(ours), grouped(plain), \
-        ratio(ours, plain), ours / units[key], plain / units[key], other ? grouped(other) : "-", other ? ratio(ours, other) : "-"
+    row(sprintf("%s|%s|%d|%s|%s|%s|%.1f|%.1f|%s|%s", operation[i], on[i], units[key], grouped(ours), grouped(plain), \
+        ratio(ours, plain), ours / units[key], plain / units[key], other ? grouped(other) : "-", other ? ratio(ours, other) : "-"))
 }
 
 function other_row(i, ours, plain) {
     ours = cost[keys[i], "ours"]
     plain = cost[keys[i], "plain"]
-    printf "| %s | %s | %s | %s | %s |\n", operation[i], on[i], grouped(ours), grouped(plain), ratio(ours, plain)
+    row(sprintf("%s|%s|%s|%s|%s", operation[i], on[i], grouped(ours), grouped(plain), ratio(ours, plain)))
 }
 
 # Remembers the costs at 16, 32 and 64 octets, in the order in which they are met.
@@ -86,8 +116,8 @@ function growth_row(j, line, part, low, high, factor) {
         steepest = factor
         steepest_on = part[1] ", " part[2]
     }
-    printf "| %s | %s | %s | %s | %s | %.1f | %.1f | %s |\n", part[1], part[2], grouped(at[line, 16]), grouped(at[line, 32]), \
-        grouped(at[line, 64]), low, high, ratio(plain_at[line, 64] - plain_at[line, 32], 2 * (plain_at[line, 32] - plain_at[line, 16]))
+    row(sprintf("%s|%s|%s|%s|%s|%.1f|%.1f|%s", part[1], part[2], grouped(at[line, 16]), grouped(at[line, 32]), grouped(at[line, 64]), \
+        low, high, ratio(plain_at[line, 64] - plain_at[line, 32], 2 * (plain_at[line, 32] - plain_at[line, 16]))))
 }
 
 # How far octets are from a goal.
@@ -102,46 +132,46 @@ END {
 
     print "\n## Frames\n"
     print "The information's octets are random-looking, the same sixteen over and over, or all ones; 2 opening flags and 1 closing one.\n"
-    print "| operation | octets | bits | ours | plain | ours / plain | ours a bit | plain a bit | spandsp | ours / spandsp |"
-    print "|---|---|---|---|---|---|---|---|---|---|"
+    head("operation|octets|bits|ours|plain|ours / plain|ours a bit|plain a bit|spandsp|ours / spandsp")
     for (i = 1; i <= count; i++)
         if (is_frame(operation[i]))
             frame_row(i)
+    print_table()
 
     print "\n## Messages and the station\n"
     print "Flat is one long NPar block with every bit set; deep is many Par(2) blocks with SPar(2). The step has the fullest own table and sixteen wishes of all of it, of which only the last is ready.\n"
-    print "| operation | on | ours | plain | ours / plain |"
-    print "|---|---|---|---|---|"
+    head("operation|on|ours|plain|ours / plain")
     for (i = 1; i <= count; i++)
         if (!is_frame(operation[i]))
             other_row(i)
+    print_table()
 
     print "\n## Growth\n"
     print "Ours at 16, 32 and 64 octets, and what an octet more costs between them.\n"
-    print "| operation | on | 16 | 32 | 64 | an octet, 16 to 32 | an octet, 32 to 64 | plain: the second by the first |"
-    print "|---|---|---|---|---|---|---|---|"
+    head("operation|on|16|32|64|an octet, 16 to 32|an octet, 32 to 64|plain: the second by the first")
     for (i = 1; i <= count; i++)
         remember(i)
     for (j = 1; j <= lines; j++)
         growth_row(j)
+    print_table()
 
     print "\n## Stack\n"
     print "The largest over the inputs above, in octets from the operation's own entry. Its return address counts; what its caller holds, arguments too, does not. A step is measured where `step` is entered, which the function named here calls; the other operations are inside of the functions named here.\n"
-    print "| operation | function | ours | plain | ours / plain | goal, under |"
-    print "|---|---|---|---|---|---|"
+    head("operation|function|ours|plain|ours / plain|goal, under")
     for (k = 1; k <= stacks; k++)
-        printf "| %s | `%s` | %s | %s | %s | %s |\n", stack_name[k], function_of[k], grouped(stack_ours[k]), grouped(stack_plain[k]), \
-            ratio(stack_ours[k], stack_plain[k]), grouped(stack_under(stack_name[k]))
+        row(sprintf("%s|`%s`|%s|%s|%s|%s", stack_name[k], function_of[k], grouped(stack_ours[k]), grouped(stack_plain[k]), \
+            ratio(stack_ours[k], stack_plain[k]), grouped(stack_under(stack_name[k]))))
+    print_table()
 
     print "\n## Code\n"
     print "Octets of what the function needs, linked alone, without the C library (`memcpy`, `memset`).\n"
-    print "| operation | ours .text | plain .text | ours / plain | ours .rodata | plain .rodata |"
-    print "|---|---|---|---|---|---|"
+    head("operation|ours .text|plain .text|ours / plain|ours .rodata|plain .rodata")
     for (k = 1; k <= stacks; k++) {
         name = stack_name[k]
-        printf "| %s | %s | %s | %s | %s | %s |\n", name, grouped(text_ours[name]), grouped(text_plain[name]), \
-            ratio(text_ours[name], text_plain[name]), grouped(rodata_ours[name]), grouped(rodata_plain[name])
+        row(sprintf("%s|%s|%s|%s|%s|%s", name, grouped(text_ours[name]), grouped(text_plain[name]), \
+            ratio(text_ours[name], text_plain[name]), grouped(rodata_ours[name]), grouped(rodata_plain[name])))
     }
+    print_table()
 
     print "\n## Goals\n"
     for (k = 1; k <= stacks; k++) {
