@@ -10,8 +10,8 @@ import sys
 from pathlib import Path
 from textwrap import indent
 
-# Exported for bench/ alone: no operations of the product.
-WITHOUT_OPERATIONS = ["measure"]
+# For bench/ and for the probe alone: no operations of the product.
+WITHOUT_OPERATIONS = ["measure", "wire", "trials"]
 PUBLIC = re.compile(r"^pub (?:extern \"C\" )?fn (\w+)", re.M)
 
 

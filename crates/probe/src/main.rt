@@ -1,12 +1,7 @@
 // The probe: a program by which any other puts the operations to the test. Standard input is a row
 // of requests and standard output a row of replies, one for each request, in order. Both have the
-// form of a run (wire.rt). A request is the octet of its operation and the pieces that this takes.
-mod choices;
-mod frames;
-mod messages;
-mod parts;
+// form of a run (the crate `wire`). A request is the octet of its operation and the pieces that this takes.
 mod stations;
-mod wire;
 
 use libc::STDIN_FILENO;
 use libc::STDOUT_FILENO;
@@ -17,22 +12,11 @@ use wire::U16;
 // The octets of the longest request.
 const REQUEST_LIMIT: usize = 65535;
 
-// Has the request's operation carried out. An empty request counts as one for operation 0, which is none.
+// Has the request's operation carried out: a step of the station here, every other in `trials`.
 fn carry_out(request: &[u8]) -> Reply {
     match wire::octet(request, 0) {
-        1 => frames::frame_reader(request),
-        2 => frames::frame_writer(request),
-        3 => messages::message_reader(request),
-        4 => messages::message_writer(request),
-        5 => messages::striking(request),
         6 => stations::station_step(request),
-        32 => choices::check_tables(request),
-        33 => choices::first_ready(request),
-        34 => choices::first_common(request),
-        35 => choices::judge_mode(request),
-        36 => parts::ns_read(request),
-        37 => parts::ns_made_up(request),
-        _ => wire::no_reply(),
+        _ => trials::carry_out(request),
     }
 }
 

@@ -1,11 +1,4 @@
 // Operation 6: one step of the station.
-use super::wire;
-use super::wire::RUN_LIMIT;
-use super::wire::Reply;
-use super::wire::Run;
-use super::wire::U8;
-use super::wire::U16;
-use super::wire::U64;
 use station::Event;
 use station::Sends;
 use station::Stepped;
@@ -19,6 +12,12 @@ use table::Settings;
 use table::Signal;
 use table::Start;
 use table::State;
+use wire::RUN_LIMIT;
+use wire::Reply;
+use wire::Run;
+use wire::U8;
+use wire::U16;
+use wire::U64;
 
 // Where the pieces of a request start: phase u8, entry u64, wish u8, ACK asked u8, seven settings of one octet each, the own table.
 const PHASE_AT: usize = 1;

@@ -1,13 +1,12 @@
 // Operations 32 to 35: own table and wishes, choice and verdict.
-use super::wire;
-use super::wire::PIECES;
-use super::wire::RUN_LIMIT;
-use super::wire::Reply;
-use super::wire::U8;
 use choice::Choice;
 use choice::Pick;
 use choice::Tables;
 use choice::Verdict;
+use wire::PIECES;
+use wire::RUN_LIMIT;
+use wire::Reply;
+use wire::U8;
 
 // The octets of sixteen wishes, each as long as its length can say.
 const WISHES_LIMIT: usize = 4112;

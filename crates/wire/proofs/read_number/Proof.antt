@@ -1,8 +1,8 @@
 -- `wire::read_number` is safe and ends. The measure is the place, which falls with each turn, and nothing has to hold from turn to turn.
 -- Assumes nothing.
 use borrow.Author.Needs.{needs}
-use Rattle.probe.proofs.wire.read_number.Statement.{statement}
-use Rattle.probe.proofs.wire.read_number.Tie as tie
+use Rattle.wire.proofs.read_number.Statement.{statement}
+use Rattle.wire.proofs.read_number.Tie as tie
 
 abbrev Inv-loop : tie.InvT-loop
 Inv-loop request at width end value₀ place₀ value place = Unit {0}

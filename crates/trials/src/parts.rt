@@ -1,14 +1,13 @@
 // Operations 36 and 37: NS as a part of a message.
 use super::messages;
-use super::wire;
-use super::wire::PIECES;
-use super::wire::RUN_LIMIT;
-use super::wire::Reply;
-use super::wire::U8;
-use super::wire::U64;
 use message::Message;
 use message::MessageRead;
 use message::Span;
+use wire::PIECES;
+use wire::RUN_LIMIT;
+use wire::Reply;
+use wire::U8;
+use wire::U64;
 
 // The numbers that the message reader has to be lent.
 const LIST_ROOM: usize = 448;

@@ -10,53 +10,53 @@
 const CUT: usize = 65536;
 
 // Where the pieces of a request start, behind the octet of its operation.
-pub(crate) const PIECES: usize = 1;
+pub const PIECES: usize = 1;
 
 // The width of a number, in octets: U8, U16, U32 or U64.
-pub(crate) const U8: usize = 1;
+pub const U8: usize = 1;
 
-pub(crate) const U16: usize = 2;
+pub const U16: usize = 2;
 
-pub(crate) const U32: usize = 4;
+pub const U32: usize = 4;
 
-pub(crate) const U64: usize = 8;
+pub const U64: usize = 8;
 
 // The most octets of a run or buffer.
-pub(crate) const RUN_LIMIT: usize = 255;
+pub const RUN_LIMIT: usize = 255;
 
 // Room for the longest reply.
-pub(crate) const REPLY_LIMIT: usize = 4096;
+pub const REPLY_LIMIT: usize = 4096;
 
-pub(crate) struct Number {
+pub struct Number {
     pub value: u64,
     pub end: usize,
 }
 
 // The place of the octets of a run or buffer.
-pub(crate) struct Run {
+pub struct Run {
     pub start: usize,
     pub end: usize,
 }
 
 // The number of a refusal, 0 for success, and a count of octets or bits, 0 with a refusal.
-pub(crate) struct Answer {
+pub struct Answer {
     pub no: u8,
     pub count: usize,
 }
 
 // A reply. It goes from hand to hand by value, and what is put to it stands behind what was put before.
-pub(crate) struct Reply {
+pub struct Reply {
     pub octets: [u8; REPLY_LIMIT],
     pub length: usize,
 }
 
 // The octet at a place.
-pub(crate) fn octet(octets: &[u8], at: usize) -> u8 {
+pub fn octet(octets: &[u8], at: usize) -> u8 {
     if at < octets.len() { octets[at] } else { 0 }
 }
 
 // The first octets, all where there are fewer.
-pub(crate) fn first(octets: &[u8], count: usize) -> &[u8] {
+pub fn first(octets: &[u8], count: usize) -> &[u8] {
     if count < octets.len() {
         return &octets[0..count];
     }
@@ -64,7 +64,7 @@ pub(crate) fn first(octets: &[u8], count: usize) -> &[u8] {
 }
 
 // The same, to be written to.
-pub(crate) fn first_mut(octets: &mut [u8], count: usize) -> &mut [u8] {
+pub fn first_mut(octets: &mut [u8], count: usize) -> &mut [u8] {
     if count < octets.len() {
         return &mut octets[0..count];
     }
@@ -72,7 +72,7 @@ pub(crate) fn first_mut(octets: &mut [u8], count: usize) -> &mut [u8] {
 }
 
 // The number at a place.
-pub(crate) fn read_number(request: &[u8], at: usize, width: usize) -> Number {
+pub fn read_number(request: &[u8], at: usize, width: usize) -> Number {
     let end = end_of(request, at, width);
     if end == CUT {
         return Number { value: 0, end };
@@ -87,7 +87,7 @@ pub(crate) fn read_number(request: &[u8], at: usize, width: usize) -> Number {
 }
 
 // The run or buffer at a place.
-pub(crate) fn read_run(request: &[u8], at: usize, limit: usize) -> Run {
+pub fn read_run(request: &[u8], at: usize, limit: usize) -> Run {
     let length = read_number(request, at, U16);
     let start = length.end;
     let count = length.value as usize;
@@ -101,7 +101,7 @@ pub(crate) fn read_run(request: &[u8], at: usize, limit: usize) -> Run {
 }
 
 // The octets of a run or buffer.
-pub(crate) fn octets_of(request: &[u8], run: Run) -> &[u8] {
+pub fn octets_of(request: &[u8], run: Run) -> &[u8] {
     let start = run.start;
     let end = run.end;
     if start <= end && end <= request.len() {
@@ -111,7 +111,7 @@ pub(crate) fn octets_of(request: &[u8], run: Run) -> &[u8] {
 }
 
 // Where so many octets end that start at a place.
-pub(crate) fn end_of(request: &[u8], start: usize, count: usize) -> usize {
+pub fn end_of(request: &[u8], start: usize, count: usize) -> usize {
     if request.len() < start {
         return CUT;
     }
@@ -122,7 +122,7 @@ pub(crate) fn end_of(request: &[u8], start: usize, count: usize) -> usize {
 }
 
 // What an operation gives where the request is none.
-pub(crate) fn no_reply() -> Reply {
+pub fn no_reply() -> Reply {
     Reply {
         octets: [0u8; REPLY_LIMIT],
         length: 0,
@@ -130,7 +130,7 @@ pub(crate) fn no_reply() -> Reply {
 }
 
 // Puts octets to a reply, as many as it has room for.
-pub(crate) fn put_octets(reply: Reply, octets: &[u8]) -> Reply {
+pub fn put_octets(reply: Reply, octets: &[u8]) -> Reply {
     let mut all = reply.octets;
     let mut length = reply.length;
     let mut taken = 0;
@@ -146,7 +146,7 @@ pub(crate) fn put_octets(reply: Reply, octets: &[u8]) -> Reply {
 }
 
 // A buffer as it is lent: these octets, and zeros behind them.
-pub(crate) fn lent(octets: &[u8]) -> [u8; REPLY_LIMIT] {
+pub fn lent(octets: &[u8]) -> [u8; REPLY_LIMIT] {
     put_octets(no_reply(), octets).octets
 }
 
@@ -155,7 +155,7 @@ fn lowest_octet(value: u64) -> u8 {
 }
 
 // Puts a number of this width to a reply.
-pub(crate) fn put_number(reply: Reply, width: usize, value: u64) -> Reply {
+pub fn put_number(reply: Reply, width: usize, value: u64) -> Reply {
     let octets = [
         lowest_octet(value),
         lowest_octet(value >> 8),
@@ -170,27 +170,27 @@ pub(crate) fn put_number(reply: Reply, width: usize, value: u64) -> Reply {
 }
 
 // A reply that begins with the rules' number, u8.
-pub(crate) fn reply_with(no: u64) -> Reply {
+pub fn reply_with(no: u64) -> Reply {
     put_number(no_reply(), U8, no)
 }
 
 // Puts octets to a reply, behind their length.
-pub(crate) fn put_run(reply: Reply, octets: &[u8]) -> Reply {
+pub fn put_run(reply: Reply, octets: &[u8]) -> Reply {
     put_octets(put_number(reply, U16, octets.len() as u64), octets)
 }
 
 // Puts two numbers to a reply, u16 each.
-pub(crate) fn put_pair(reply: Reply, one: usize, other: usize) -> Reply {
+pub fn put_pair(reply: Reply, one: usize, other: usize) -> Reply {
     put_number(put_number(reply, U16, one as u64), U16, other as u64)
 }
 
 // The reply of most operations: no u8, count u16, the lent buffer.
-pub(crate) fn reply_with_buffer(answer: Answer, buffer: &[u8]) -> Reply {
+pub fn reply_with_buffer(answer: Answer, buffer: &[u8]) -> Reply {
     let counted = put_number(reply_with(answer.no as u64), U16, answer.count as u64);
     put_run(counted, buffer)
 }
 
 // A reply with a refusal's number, and zeros for what there is not.
-pub(crate) fn refusal(no: u64, zeros: usize) -> Reply {
+pub fn refusal(no: u64, zeros: usize) -> Reply {
     put_octets(reply_with(no), first(&[0u8; 8], zeros))
 }

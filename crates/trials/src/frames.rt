@@ -1,13 +1,12 @@
 // Operations 1 and 2: the frame reader and the frame writer.
-use super::wire;
-use super::wire::Answer;
-use super::wire::PIECES;
-use super::wire::RUN_LIMIT;
-use super::wire::Reply;
-use super::wire::U8;
-use super::wire::U32;
 use frame::FrameRead;
 use frame::FrameWritten;
+use wire::Answer;
+use wire::PIECES;
+use wire::RUN_LIMIT;
+use wire::Reply;
+use wire::U8;
+use wire::U32;
 
 // Request: bits u32, run, out. Reply: no u8, octets u16, out.
 pub(crate) fn frame_reader(request: &[u8]) -> Reply {

@@ -1,16 +1,15 @@
 // Operations 3, 4 and 5: the message reader, the message writer and striking.
-use super::wire;
-use super::wire::Answer;
-use super::wire::PIECES;
-use super::wire::REPLY_LIMIT;
-use super::wire::RUN_LIMIT;
-use super::wire::Reply;
-use super::wire::U8;
-use super::wire::U16;
-use super::wire::U32;
 use message::Message;
 use message::MessageRead;
 use strike::Struck;
+use wire::Answer;
+use wire::PIECES;
+use wire::REPLY_LIMIT;
+use wire::RUN_LIMIT;
+use wire::Reply;
+use wire::U8;
+use wire::U16;
+use wire::U32;
 use writer::MessageWritten;
 
 // The most numbers of a list.

@@ -1,12 +1,12 @@
--- `messages::put_list` is safe and ends. The loop's invariant: no more octets were taken than the reply has. The measure is what is left
+-- `trials::messages::put_list` is safe and ends. The loop's invariant: no more octets were taken than the reply has. The measure is what is left
 -- of the reply's room.
 -- Assumes nothing.
 use Prim.Native.Nat.{_-_, _≤_}
 use native.Mathlib.Omega.{arith}
 use borrow.Author.Needs.{needs}
 use borrow.Author.Tests.{ltb-true}
-use Rattle.probe.proofs.messages.put_list.Statement.{statement}
-use Rattle.probe.proofs.messages.put_list.Tie as tie
+use Rattle.trials.proofs.messages.put_list.Statement.{statement}
+use Rattle.trials.proofs.messages.put_list.Tie as tie
 
 abbrev Inv-loop : tie.InvT-loop
 Inv-loop list all₀ length₀ taken₀ all length taken = taken ≤ length

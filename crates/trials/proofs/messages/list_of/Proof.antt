@@ -1,9 +1,9 @@
--- `messages::list_of` is safe and ends. The measure is how many numbers are left, and nothing has to hold from turn to turn.
+-- `trials::messages::list_of` is safe and ends. The measure is how many numbers are left, and nothing has to hold from turn to turn.
 -- Assumes nothing.
 use Prim.Native.Nat.{_-_}
 use borrow.Author.Needs.{needs}
-use Rattle.probe.proofs.messages.list_of.Statement.{statement}
-use Rattle.probe.proofs.messages.list_of.Tie as tie
+use Rattle.trials.proofs.messages.list_of.Statement.{statement}
+use Rattle.trials.proofs.messages.list_of.Tie as tie
 
 abbrev Inv-loop : tie.InvT-loop
 Inv-loop request count list₀ next₀ i₀ list next i = Unit {0}

@@ -4,8 +4,8 @@ use Prim.Native.Nat.{_-_}
 use native.Mathlib.Omega.{arith}
 use borrow.Author.Needs.{needs}
 use borrow.Author.Tests.{ltb-true}
-use Rattle.probe.proofs.wire.put_octets.Statement.{statement}
-use Rattle.probe.proofs.wire.put_octets.Tie as tie
+use Rattle.wire.proofs.put_octets.Statement.{statement}
+use Rattle.wire.proofs.put_octets.Tie as tie
 
 abbrev Inv-loop : tie.InvT-loop
 Inv-loop octets all₀ length₀ taken₀ all length taken = Unit {0}
