@@ -11,7 +11,7 @@ from pathlib import Path
 from textwrap import indent
 
 # For bench/ and for the probe alone: no operations of the product.
-WITHOUT_OPERATIONS = ["measure", "wire", "trials"]
+WITHOUT_OPERATIONS = ["measure", "wire", "trials", "inner_trials"]
 PUBLIC = re.compile(r"^pub (?:extern \"C\" )?fn (\w+)", re.M)
 
 

@@ -12,12 +12,19 @@ use wire::U16;
 // The octets of the longest request.
 const REQUEST_LIMIT: usize = 65535;
 
-// Has the request's operation carried out: a step of the station here, every other in `trials`.
+// The first of the operations that are reached only through others.
+const FIRST_INNER: u8 = 32;
+
+// Has the request's operation carried out. An empty request counts as one for operation 0, which is none.
 fn carry_out(request: &[u8]) -> Reply {
-    match wire::octet(request, 0) {
-        6 => stations::station_step(request),
-        _ => trials::carry_out(request),
+    let operation = wire::octet(request, 0);
+    if operation == 6 {
+        return stations::station_step(request);
     }
+    if operation < FIRST_INNER {
+        return trials::carry_out(request);
+    }
+    inner_trials::carry_out(request)
 }
 
 // The reply to a request: FF to what is none.

@@ -1,13 +1,23 @@
-// Operations 1 to 5 and 32 to 37 of the probe: each takes a request apart, calls an operation of the product and makes the reply of its
-// answer. For tests alone.
-mod choices;
+// Operations 1 to 5 of the probe: each takes a request apart, calls an operation of the product and makes the reply of its answer. For
+// tests alone.
 mod frames;
 mod messages;
-mod parts;
 
+use message::MessageRead;
 use wire::Reply;
 
-// Has the request's operation carried out. An empty request counts as one for operation 0, which is none.
+// The number of the message reader's answer.
+pub fn number_of_reading(read: MessageRead) -> u64 {
+    match read {
+        MessageRead::Read(_) => 0,
+        MessageRead::BadLent => 1,
+        MessageRead::BadSize => 2,
+        MessageRead::UnknownType => 3,
+        MessageRead::Malformed => 4,
+    }
+}
+
+// Has the request's operation carried out; no reply where it is none of these.
 pub fn carry_out(request: &[u8]) -> Reply {
     match wire::octet(request, 0) {
         1 => frames::frame_reader(request),
@@ -15,12 +25,6 @@ pub fn carry_out(request: &[u8]) -> Reply {
         3 => messages::message_reader(request),
         4 => messages::message_writer(request),
         5 => messages::striking(request),
-        32 => choices::check_tables(request),
-        33 => choices::first_ready(request),
-        34 => choices::first_common(request),
-        35 => choices::judge_mode(request),
-        36 => parts::ns_read(request),
-        37 => parts::ns_made_up(request),
         _ => wire::no_reply(),
     }
 }

@@ -49,7 +49,7 @@ fn reply_of_reader(octets: &[u8], count: usize) -> Reply {
 fn head_of_reading(read: MessageRead) -> Reply {
     match read {
         MessageRead::Read(m) => head_of_message(m),
-        _ => wire::refusal(number_of_reading(read), 8),
+        _ => wire::refusal(super::number_of_reading(read), 8),
     }
 }
 
@@ -59,17 +59,6 @@ fn head_of_message(m: Message) -> Reply {
     let counted = wire::put_number(dated, U16, m.count as u64);
     let ns = m.ns;
     wire::put_pair(counted, ns.at, ns.length)
-}
-
-// The number of the message reader's answer.
-pub(crate) fn number_of_reading(read: MessageRead) -> u64 {
-    match read {
-        MessageRead::Read(_) => 0,
-        MessageRead::BadLent => 1,
-        MessageRead::BadSize => 2,
-        MessageRead::UnknownType => 3,
-        MessageRead::Malformed => 4,
-    }
 }
 
 // The first numbers of a list, all where there are fewer.

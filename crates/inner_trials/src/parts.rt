@@ -1,5 +1,4 @@
 // Operations 36 and 37: NS as a part of a message.
-use super::messages;
 use message::Message;
 use message::MessageRead;
 use message::Span;
@@ -58,6 +57,6 @@ fn made_up(no: u64, at: usize, length: usize) -> MessageRead {
 }
 
 fn reply_of_part(message: &[u8], read: MessageRead) -> Reply {
-    let numbered = wire::reply_with(messages::number_of_reading(read));
+    let numbered = wire::reply_with(trials::number_of_reading(read));
     wire::put_run(numbered, message::ns_part(message, read))
 }
