@@ -1,5 +1,7 @@
 // The frame check sequence of a run of octets (V.8 bis 7.2.7). Its number has the highest coefficient in the lowest bit, so
 // that its two octets, in the order in which they are sent, are f % 256 and f / 256.
+#![tactic(auto)]
+
 ghost use Rattle.std.specs.Prelude.{◌≡◌};
 ghost use Rattle.fcs.specs.Register.{turns, octet_step};
 ghost use Rattle.fcs.specs.Promises.{TellsFcs};

@@ -4,12 +4,10 @@ use Prim.Native.Nat.{ℕ, zero, suc, ◌+◌, ◌-◌, ◌*◌, ◌/◌, ◌%◌
 use mathlib.Core.Path.{◌≡◌, refl, sym, ap, ◌∙◌}
 use mathlib.Core.Bool.{Bool, true, false}
 use mathlib.Core.List.{List, [], ◌∷◌, ◌++◌, append_assoc}
-use native.Mathlib.Nat.{add_comm, add-mul, mod-lt, mod-eq_of_lt, pow-suc}
+use native.Mathlib.Nat.{add-mul, mod-lt, mod-eq_of_lt, pow-suc}
 use native.Mathlib.Omega.{arith}
 use borrow.Author.Tests.{eqb-true, eqb-false}
-use lib.Bits.{bit_and, and_shr, and_mod}
 use lib.Count.{count_trailing_zeros}
-use lib.Dec.{eqb}
 use lib.ListN.{length, take, drop, length-append, take-append-drop}
 use lib.Pow.{pow_pos, pow_mono, split, high, low, shr_lt, shr-shr}
 use Rattle.octets.specs.Bits.{odd}
@@ -17,10 +15,10 @@ use Rattle.octets.specs.Places.{both}
 use Rattle.octets.proofs.Laws.{both_true}
 use Rattle.frame.specs.Stuffing.{stuffed}
 use Rattle.frame.specs.Pen.{low_bits}
-use Rattle.frame.specs.Quill.{pairs, five_starts, Widens}
+use Rattle.frame.specs.Quill.{five_starts, Widens}
 use Rattle.frame.proofs.Pens.{length_low_bits, low_bits_rest, low_bits_take, low_bits_drop}
 use Rattle.frame.proofs.Zeros.{stuffed-length}
-use Rattle.frame.proofs.Starts.{ones_first, starts_odd, starts_none, shifts, starts_shift}
+use Rattle.frame.proofs.Starts.{ones_first, starts_odd, starts_none, starts_shift}
 
 -- how many bits there are up to the one that a zero follows, one more than all where there is none. k ones may still come before it
 unfoldable five_end : ℕ → List Bool → ℕ

@@ -1,4 +1,6 @@
 // Frames of V.8 bis 7.2: the frame reader and the frame writer. Bits are packed with bit 1 of each octet first.
+#![tactic(auto)]
+
 ghost use Rattle.std.specs.Prelude.{◌≡◌, Bool, true, List, [], ℕ, ◌+◌, ◌-◌, ◌*◌, ◌/◌, ◌%◌, ◌^◌, ◌≤◌, ◌<◌, length, get_or, set, take, drop};
 ghost use Rattle.octets.specs.Bits.{bits, number, oct_before, packed};
 ghost use Rattle.octets.specs.Lay.{put};
@@ -40,7 +42,7 @@ const MOST_CONTENT: usize = 66;
 
 // The frame reader's answer: the number of information octets, or why there are none.
 // BadLent: the bit count is above 704 or more than the run has, or the output is under 64 octets.
-#[derive(Drop)]
+#[derive(Clone, Copy)]
 pub enum FrameRead {
     Octets(usize),
     BadLent,
@@ -52,7 +54,7 @@ pub enum FrameRead {
 }
 
 // The frame writer's answer: the number of bits, or why there are none. BadLent: the output is under 88 octets.
-#[derive(Drop)]
+#[derive(Clone, Copy)]
 pub enum FrameWritten {
     Bits(usize),
     BadLent,
@@ -61,7 +63,7 @@ pub enum FrameWritten {
 }
 
 // Where the next bit goes, and the bits of its octet that are not stored yet.
-#[derive(Drop)]
+#[derive(Clone, Copy)]
 struct Pen {
     at: usize,
     octet: u8,
@@ -81,7 +83,7 @@ fn put_last(out: &mut [u8], pen: Pen)
 }
 
 // Where the next bit goes: the octet's place, the bits of it that are not stored yet, and how many they are.
-#[derive(Drop)]
+#[derive(Clone, Copy)]
 struct Quill {
     at: usize,
     word: u32,
@@ -137,7 +139,7 @@ fn five_starts(word: u32, high: u32) -> u32
 }
 
 // A word of twelve bits, and of as many more as zeros were put into it.
-#[derive(Drop)]
+#[derive(Clone, Copy)]
 struct Wide {
     word: u32,
     more: u32,
@@ -164,7 +166,7 @@ fn with_zeros(start: u32, starts: u32) -> Wide
 }
 
 // A quill, and the last four bits that were put, as a number.
-#[derive(Drop)]
+#[derive(Clone, Copy)]
 struct Mark {
     quill: Quill,
     last: u32,
@@ -322,14 +324,14 @@ fn count_flags(run: &[u8], count: usize, start: usize, most: usize) -> usize
 }
 
 // What reading found: how many bits of content, and the place where what follows begins.
-#[derive(Drop)]
+#[derive(Clone, Copy)]
 enum Found {
     Nothing,
     Upto { bits: usize, next: usize },
 }
 
 // The content taken so far: how many bits, and those of them that do not fill an octet. The octets stand in plain, as many as it has room for.
-#[derive(Drop)]
+#[derive(Clone, Copy)]
 struct Kept {
     size: usize,
     rest: u32,
@@ -376,7 +378,7 @@ fn lowest(octet: u8, width: usize) -> u8
 
 // What eight bits were: bits of the content and inserted zeros, or these up to a sixth one in a row. Its place among them follows, and
 // whether the zero before the six ones is one of the content.
-#[derive(Drop)]
+#[derive(Clone, Copy)]
 enum Taken {
     All(Kept),
     Six {

@@ -3,5 +3,4 @@ pub mod Digits
 pub mod Packing
 pub mod Window
 pub mod Laying
-pub mod Held
 pub mod Unique

@@ -1,4 +1,6 @@
 // What every layer needs of octets: the bits of a run, a cursor over them, eight bits as a number, and copying.
+#![tactic(auto)]
+
 ghost use Rattle.std.specs.Prelude.{◌≡◌, min};
 ghost use Rattle.octets.specs.Promises.{TellsBit, TellsOne, TellsPlaceAfter, IsReader, TellsNextBit, IsMovedOn, TellsBitAfter, TellsOctetOrZero, TellsOctet, CopiesFront};
 
@@ -6,7 +8,7 @@ ghost use Rattle.octets.specs.Promises.{TellsBit, TellsOne, TellsPlaceAfter, IsR
 const LAST_PLACE: usize = 18446744073709551615;
 
 // What stands at a place of a run.
-#[derive(Drop)]
+#[derive(Clone, Copy)]
 pub enum Bit {
     Zero,
     One,
@@ -51,7 +53,7 @@ pub fn place_after(run: &[u8], at: usize) -> usize
 }
 
 // The lent run and the place of its next bit together.
-#[derive(Drop)]
+#[derive(Clone, Copy)]
 pub struct BitReader<'a> {
     pub run: &'a [u8],
     pub at: usize,

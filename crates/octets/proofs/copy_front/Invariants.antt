@@ -1,0 +1,13 @@
+-- `octets::copy_front` meets its contract. The loop's invariant: the buffer has what was copied so far laid over its front. Once the count, the octets or the room are used up, the rest of the octets changes nothing (`over_cut`).
+-- Assumes nothing.
+use Prim.Native.Nat.{◌-◌, ◌≤◌}
+use mathlib.Core.Path.{◌≡◌}
+use lib.ListN.{length, take}
+use Rattle.octets.specs.Lay.{over}
+use Rattle.octets.proofs.copy_front.Given as goal
+
+abbrev pub invariant-loop-j : goal.invariant-loop-j
+invariant-loop-j l = (l.j ≤ l.n) × (length l.to ≡ length l.initial.to) × (l.to ≡ over (take l.j l.from) l.initial.to)
+
+abbrev pub decreases-loop-j : goal.decreases-loop-j
+decreases-loop-j l = l.n - l.j
