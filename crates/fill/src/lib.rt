@@ -1,4 +1,6 @@
 // The codes of a field (RULES, Parameter codes), stored in a list of numbers or of octets by loops over its blocks.
+#![tactic(auto)]
+
 ghost use Rattle.std.specs.Prelude.{◌+◌, ◌*◌, ◌/◌, ◌%◌, ◌^◌, ◌≤◌, ◌<◌, length, set, [], ◌∷◌, ◌++◌, ◌≡◌};
 ghost use Rattle.tree.specs.Block.{set_bits, behind, numbers};
 ghost use Rattle.tree.specs.Codes.{of_t, of_s, field_base, sub_codes, subs_behind, group_codes, group_behind, par_codes, pars_behind, field_codes};
@@ -10,7 +12,7 @@ ghost use Rattle.fill.specs.Promises.{FillsFields};
 use tree::{IDENTIFICATION, MOST_OCTETS, OF_S, OF_T, STANDARD, bit8, block_behind, top_behind};
 
 // How many codes are stored, and how far reading has come.
-#[derive(Drop)]
+#[derive(Clone, Copy)]
 struct Tally {
     count: usize,
     at: usize,

@@ -406,10 +406,11 @@ subs_grown (suc k) c p lo (t ∷ l) n z h w s =
     let e : c + q * 512 ≡ t = omega arith in
     let cut = cut_within (suc t) (t + 512) (c + of_s) l w.2 in
     let ks = positions_shift t 0 (suc t) N (omega arith) cut.0 in
+    let here : shift (c + q * 512) (positions 1 t N) ≡ N = ap (λ (x : ℕ). shift x (positions 1 t N)) e ∙ ks.0 in
     let whole : N ++ F ≡ l = run_from (t + 512) l in
     let under = closed_under 512 512 t (c + of_s) l (lit< tt) (lit< tt) (omega arith) w.2 s in
     let ih = subs_grown k c q (t + 512) F (omega (arith, length-append N F, ap length whole)) z (omega arith) cut.1 under.1 in (
-      rw (e, ks.0, ih.0) (ap (λ (x : List ℕ). t ∷ x) whole),
+      rw (e, here, ih.0) (ap (λ (x : List ℕ). t ∷ x) whole),
       (omega arith, omega arith, ih.1),
       (ks.1, ih.2),
     )
@@ -448,8 +449,10 @@ pars_grown (suc k) b p lo (c ∷ l) n z h w s u =
     let ss = closed_under 512 of_s c (b + of_f) l (lit< tt) (lit< tt) (omega arith) w.2 s in
     let us = closed_under of_s of_s c (b + of_f) l (lit< tt) (lit< tt) (omega arith) w.2 u in
     let this = par_grown c R (omega arith) cut.0 ss.0 in
+    let here : shift (b + q * of_s) (positions 1 c (run (c + 512) R)) ++ subs_codes (b + q * of_s) (subs_of (length (from (c + 512) R)) c (from (c + 512) R)) ≡ R =
+    ap (λ (x : ℕ). shift x (positions 1 c (run (c + 512) R)) ++ subs_codes x (subs_of (length (from (c + 512) R)) c (from (c + 512) R))) e ∙ this.0 in
     let ih = pars_grown k b q (c + of_s) F (omega (arith, length-append R F, ap length whole)) z (omega arith) cut.1 ss.1 us.1 in (
-      rw (e, this.0, ih.0) (ap (λ (x : List ℕ). c ∷ x) whole),
+      rw (here, ih.0, e) (ap (λ (x : List ℕ). c ∷ x) whole),
       (omega arith, omega arith, ih.1),
       (this.1, this.2, this.3, ih.2),
     )

@@ -20,8 +20,8 @@ use Rattle.meaning.specs.MinimalForm.{minimal_form, StandardField, standard_list
 use Rattle.meaning.specs.Written.{written}
 use Rattle.meaning.specs.Writing.{sent, write_message}
 use Rattle.meaning.proofs.Growing.{written_tree}
-use Rattle.meaning.proofs.Minimals.{never_longer, minimal_same, same_minimal}
-use Rattle.meaning.proofs.Reading.{Reads, tree_read, tree_at, tree_codes_lem, tree_coded}
+use Rattle.meaning.proofs.Minimals.{never_longer, minimal_same_coded, same_minimal_coded}
+use Rattle.meaning.proofs.Reading.{ReadsCoded, tree_read_coded, tree_at, tree_codes_lem, tree_coded}
 use Rattle.meaning.proofs.RoundTrip.{sent_writable, read_can_be_written, written_is_read, written_is_minimal, part_octets, tree_octets_lem, written_is_octets, minimal_said_twice}
 use Rattle.meaning.proofs.Trees.{tree_codes, tree_octets, GoodTree}
 
@@ -104,9 +104,9 @@ module _ (s : List ℕ) (h : StandardField s) where
 
   -- read by itself
   form_read : let f = minimal_standard s in
-      Reads (standard_list f) (tree_codes (field_base 2) (tree_at s 0)) (field_behind f 0) 0 (tree_octets (tree_at s 0)) (field_form f 0) (field_minimal f 0) (field_coded f 0)
+      ReadsCoded (standard_list f) (tree_codes (field_base 2) (tree_at s 0)) (field_behind f 0) 0 (tree_octets (tree_at s 0)) (field_form f 0) (field_minimal f 0) (field_coded f 0)
   form_read =
-      rw form_tree (tree_read (field_base 2) (tree_at s 0) (tree_octets (tree_at s 0)) 0 [] good (sym (append-nil (tree_octets (tree_at s 0)))))
+      rw form_tree (tree_read_coded (field_base 2) (tree_at s 0) (tree_octets (tree_at s 0)) 0 [] good (sym (append-nil (tree_octets (tree_at s 0)))))
 
   -- it is such a field, of the same codes
   pub field_tells : StandardField (minimal_standard s) × (standard_list (minimal_standard s) ≡ standard_list s)
@@ -137,7 +137,7 @@ module _ (s : List ℕ) (h : StandardField s) where
   pub field_itself : (field_minimal s 0 ≡ true) ↔ (minimal_standard s ≡ s)
   field_itself =
       let all : take (field_behind s 0 - 0) (drop 0 s) ≡ s = take_all (field_behind s 0 - 0) s (omega (arith, h.whole)) in
-      (λ m. form_tree ∙ sym (minimal_same s 0 h.coded h.octets h.form m) ∙ all, λ e. same_minimal s 0 h.coded (all ∙ sym e ∙ form_tree))
+      (λ m. form_tree ∙ sym (minimal_same_coded s 0 h.coded h.octets h.form m) ∙ all, λ e. same_minimal_coded s 0 h.coded (all ∙ sym e ∙ form_tree))
 
 -- two fields have the same codes exactly if their minimal forms are equal
 pub same_codes : (s t : List ℕ) → StandardField s → StandardField t → (standard_list s ≡ standard_list t) ↔ (minimal_standard s ≡ minimal_standard t)

@@ -21,12 +21,13 @@ use Rattle.tree.proofs.Ascending.{numbers-ascending}
 use Rattle.tree.proofs.Forms.{and_parts}
 use Rattle.tree.specs.Form.{and_then, last_form, block_form, form_at, subs_form, group_form, pars_form, rest_form, field_form}
 use Rattle.tree.specs.declared.Form.TheVariants.{Fine, Wrong}
+use Rattle.tree.specs.Wide.{field_fits}
 use Rattle.meaning.specs.Coded.{field_coded}
 use Rattle.meaning.specs.Written.{block_octets, marked}
 use Rattle.meaning.specs.Minimal.{tight_at, subs_minimal, group_minimal, pars_minimal, field_minimal}
 use Rattle.meaning.proofs.Trees.{Sub, sub_places, subs_octets, lower_octets, par_octets, pars_octets, tree_octets}
 use Rattle.meaning.proofs.Blocks.{Ends, last, more, ends_at, shorter, block_back, closing, none}
-use Rattle.meaning.proofs.Reading.{places_subs, places_pars, marked_subs, marked_lower, subs_at, group_at, pars_at, tree_at, tree_read, tree_coded}
+use Rattle.meaning.proofs.Reading.{places_subs, places_pars, marked_subs, marked_lower, subs_at, group_at, pars_at, tree_at, tree_read, tree_coded, fits_coded}
 
 -- ---- a well-formed block
 
@@ -246,14 +247,21 @@ module _ (l : List ℕ) (octets : AreOctets l) where
 
 -- where it has no position above 511 it is what is written exactly if it is minimal
 module _ (l : List ℕ) (e : ℕ) (h : field_coded l e ≡ true) where
-  pub minimal_same : AreOctets l → field_form l e ≡ Fine → field_minimal l e ≡ true → take (field_behind l e - e) (drop e l) ≡ tree_octets (tree_at l e)
-  minimal_same octets f m =
+  pub minimal_same_coded : AreOctets l → field_form l e ≡ Fine → field_minimal l e ≡ true → take (field_behind l e - e) (drop e l) ≡ tree_octets (tree_at l e)
+  minimal_same_coded octets f m =
       let y = field_behind l e in
       let s = minimal_stands l octets e f m in
       let r = tree_read 0 (tree_at l e) l e (drop y l) (tree_coded l e h) s in
       rw s (take_at (tree_octets (tree_at l e)) (drop y l) (y - e) (omega (arith, r.next)))
 
-  pub same_minimal : take (field_behind l e - e) (drop e l) ≡ tree_octets (tree_at l e) → field_minimal l e ≡ true
-  same_minimal s =
+  pub same_minimal_coded : take (field_behind l e - e) (drop e l) ≡ tree_octets (tree_at l e) → field_minimal l e ≡ true
+  same_minimal_coded s =
       let n = field_behind l e - e in
       (tree_read 0 (tree_at l e) l e (drop n (drop e l)) (tree_coded l e h) (rw (← s) (sym (take-append-drop n (drop e l))))).tight
+
+module _ (l : List ℕ) (e : ℕ) (h : field_fits l e ≡ true) where
+  pub minimal_same : AreOctets l → field_form l e ≡ Fine → field_minimal l e ≡ true → take (field_behind l e - e) (drop e l) ≡ tree_octets (tree_at l e)
+  minimal_same = minimal_same_coded l e (fits_coded l e h)
+
+  pub same_minimal : take (field_behind l e - e) (drop e l) ≡ tree_octets (tree_at l e) → field_minimal l e ≡ true
+  same_minimal = same_minimal_coded l e (fits_coded l e h)

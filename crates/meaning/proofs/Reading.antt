@@ -30,8 +30,15 @@ use Rattle.meaning.proofs.Blocks.{closing, none, block_some, marked_block, top_s
 
 -- ---- octets of a tree
 
--- what is read from place e on: the codes that were meant, up to behind the octets, well-formed, minimal and with no position above 511
-pub record Reads (found codes : List ℕ) (end e : ℕ) (octets : List ℕ) (form : Form) (minimal coded : Bool) : Type 0 where
+-- what is read from place e on: the codes that were meant, up to behind the octets, well-formed and minimal
+pub record Reads (found codes : List ℕ) (end e : ℕ) (octets : List ℕ) (form : Form) (minimal : Bool) : Type 0 where
+  pub told : found ≡ codes
+  pub next : end ≡ e + length octets
+  pub fine : form ≡ Fine
+  pub tight : minimal ≡ true
+
+-- the same, and with no position above 511
+pub record ReadsCoded (found codes : List ℕ) (end e : ℕ) (octets : List ℕ) (form : Form) (minimal coded : Bool) : Type 0 where
   pub told : found ≡ codes
   pub next : end ≡ e + length octets
   pub fine : form ≡ Fine
@@ -65,18 +72,18 @@ pub marked_lower : (ns : List ℕ) (gs : List Sub) → Ascending 0 ns → marked
 marked_lower ns gs r = rw (marked_block ns (lower_octets gs) r, none_lower gs)
 
 -- the NPar(3) blocks
-subs_read : (c : ℕ) (gs : List Sub) (l : List ℕ) (e : ℕ) (R : List ℕ) → GoodSubs gs → drop e l ≡ marked (subs_octets gs) ++ R → ended l e ≡ none gs
-    → Reads (sub_codes c (sub_places gs) l e) (subs_codes c gs) (subs_behind (length (sub_places gs)) l e) e (marked (subs_octets gs))
+subs_read_coded : (c : ℕ) (gs : List Sub) (l : List ℕ) (e : ℕ) (R : List ℕ) → GoodSubs gs → drop e l ≡ marked (subs_octets gs) ++ R → ended l e ≡ none gs
+    → ReadsCoded (sub_codes c (sub_places gs) l e) (subs_codes c gs) (subs_behind (length (sub_places gs)) l e) e (marked (subs_octets gs))
     (subs_form (length (sub_places gs)) l e) (subs_minimal (length (sub_places gs)) l e) (subs_coded (length (sub_places gs)) l e)
 unfolding GoodSubs sub_codes subs_codes subs_behind subs_octets subs_form subs_minimal subs_coded
-subs_read c [] l e R w h b = unfold marked in record { told = refl; next = omega arith; fine = rw b; tight = refl; low = refl }
-subs_read c ((sub t ks) ∷ gs) l e R w h b =
+subs_read_coded c [] l e R w h b = unfold marked in record { told = refl; next = omega arith; fine = rw b; tight = refl; low = refl }
+subs_read_coded c ((sub t ks) ∷ gs) l e R w h b =
     let B = block_octets 6 (closing (none gs) * 64) ks in
     let S = marked (subs_octets gs) in
     let up = ascends 0 ks w.0 in
     let whole : marked (block_octets 6 64 ks ++ subs_octets gs) ≡ B ++ S = marked_subs ks gs up in
     let s = low_stands (none gs) ks l e (S ++ R) up (h ∙ rw (whole, append_assoc B S R)) in
-    let ih = subs_read c gs l (behind 64 l e) R w.1 s.0.rest s.1 in
+    let ih = subs_read_coded c gs l (behind 64 l e) R w.1 s.0.rest s.1 in
     record {
       told = rw (s.0.numbered (c + t * 512), ih.told);
       next = rw (whole, length-append B S) (omega (arith, ih.next, s.0.next));
@@ -86,11 +93,11 @@ subs_read c ((sub t ks) ∷ gs) l e R w h b =
     }
 
 -- what stands behind NPar(2)
-group_read : (c : ℕ) (gs : List Sub) (l : List ℕ) (e : ℕ) (R : List ℕ) → Rising 0 (sub_places gs) → GoodSubs gs → drop e l ≡ marked (lower_octets gs) ++ R → ended l e ≡ none gs
-    → Reads (group_codes c l e) (subs_codes c gs) (group_behind l e) e (marked (lower_octets gs)) (group_form l e) (group_minimal l e) (group_coded l e)
+group_read_coded : (c : ℕ) (gs : List Sub) (l : List ℕ) (e : ℕ) (R : List ℕ) → Rising 0 (sub_places gs) → GoodSubs gs → drop e l ≡ marked (lower_octets gs) ++ R → ended l e ≡ none gs
+    → ReadsCoded (group_codes c l e) (subs_codes c gs) (group_behind l e) e (marked (lower_octets gs)) (group_form l e) (group_minimal l e) (group_coded l e)
 unfolding group_codes group_behind group_form group_minimal group_coded lower_octets
-group_read c [] l e R r w h b = unfold marked subs_codes in record { told = rw b; next = rw b (omega arith); fine = rw b; tight = rw b; low = rw b }
-group_read c ((sub t ks) ∷ gs) l e R r w h b =
+group_read_coded c [] l e R r w h b = unfold marked subs_codes in record { told = rw b; next = rw b (omega arith); fine = rw b; tight = rw b; low = rw b }
+group_read_coded c ((sub t ks) ∷ gs) l e R r w h b =
     let some = sub t ks ∷ gs in
     let ts = t ∷ sub_places gs in
     let B = block_octets 6 64 ts in
@@ -98,7 +105,7 @@ group_read c ((sub t ks) ∷ gs) l e R r w h b =
     let up = ascends 0 ts r in
     let whole : marked (B ++ subs_octets some) ≡ B ++ S = marked_subs ts some up in
     let s = low_stands false ts l e (S ++ R) up (h ∙ rw (whole, append_assoc B S R)) in
-    let ih = subs_read c some l (behind 64 l e) R w s.0.rest s.1 in
+    let ih = subs_read_coded c some l (behind 64 l e) R w s.0.rest s.1 in
     let set : eqb (length ts) 0 ≡ false = ne_eqb (length ts) 0 (λ e. omega arith) in
     record {
       told = rw (b, s.0.positions) ih.told;
@@ -109,12 +116,12 @@ group_read c ((sub t ks) ∷ gs) l e R r w h b =
     }
 
 -- the Par(2) blocks
-pars_read : (b : ℕ) (ps : List Par) (l : List ℕ) (e : ℕ) (R : List ℕ) → GoodPars ps → drop e l ≡ pars_octets ps ++ R
-    → Reads (par_codes b (par_places ps) l e) (pars_codes b ps) (pars_behind (length (par_places ps)) l e) e (pars_octets ps)
+pars_read_coded : (b : ℕ) (ps : List Par) (l : List ℕ) (e : ℕ) (R : List ℕ) → GoodPars ps → drop e l ≡ pars_octets ps ++ R
+    → ReadsCoded (par_codes b (par_places ps) l e) (pars_codes b ps) (pars_behind (length (par_places ps)) l e) e (pars_octets ps)
     (pars_form (length (par_places ps)) l e) (pars_minimal (length (par_places ps)) l e) (pars_coded (length (par_places ps)) l e)
 unfolding GoodPars par_codes pars_codes pars_behind par_octets pars_octets pars_form pars_minimal pars_coded
-pars_read b [] l e R w h = record { told = refl; next = omega arith; fine = refl; tight = refl; low = refl }
-pars_read b ((par s ns gs) ∷ ps) l e R w h =
+pars_read_coded b [] l e R w h = record { told = refl; next = omega arith; fine = refl; tight = refl; low = refl }
+pars_read_coded b ((par s ns gs) ∷ ps) l e R w h =
     let c = b + s * of_s in
     let B = block_octets 6 (closing (none gs) * 64) ns in
     let G = marked (lower_octets gs) in
@@ -123,9 +130,9 @@ pars_read b ((par s ns gs) ∷ ps) l e R w h =
     let whole : marked (block_octets 6 64 ns ++ lower_octets gs) ≡ B ++ G = marked_lower ns gs up in
     let a = low_stands (none gs) ns l e (G ++ (P ++ R)) up (h ∙ rw (whole, append_assoc (B ++ G) P R, append_assoc B G (P ++ R))) in
     let x = behind 64 l e in
-    let g = group_read c gs l x (P ++ R) w.1 w.2 a.0.rest a.1 in
+    let g = group_read_coded c gs l x (P ++ R) w.1 w.2 a.0.rest a.1 in
     let goes : drop (group_behind l x) l ≡ P ++ R = rw (g.next, ← (drop-drop (length G) x l), a.0.rest) (drop-append_seam G (P ++ R)) in
-    let ih = pars_read b ps l (group_behind l x) R w.3 goes in
+    let ih = pars_read_coded b ps l (group_behind l x) R w.3 goes in
     record {
       told = rw (a.0.numbered c, g.told, ih.told);
       next = rw (whole, length-append (B ++ G) P, length-append B G) (omega (arith, ih.next, g.next, a.0.next));
@@ -135,10 +142,10 @@ pars_read b ((par s ns gs) ∷ ps) l e R w h =
     }
 
 -- the octets of a tree, at any place of any octets, are read as that tree
-pub tree_read : (b : ℕ) (T : Tree) (l : List ℕ) (e : ℕ) (R : List ℕ) → GoodTree T → drop e l ≡ tree_octets T ++ R
-    → Reads (field_codes b l e) (tree_codes b T) (field_behind l e) e (tree_octets T) (field_form l e) (field_minimal l e) (field_coded l e)
+pub tree_read_coded : (b : ℕ) (T : Tree) (l : List ℕ) (e : ℕ) (R : List ℕ) → GoodTree T → drop e l ≡ tree_octets T ++ R
+    → ReadsCoded (field_codes b l e) (tree_codes b T) (field_behind l e) e (tree_octets T) (field_form l e) (field_minimal l e) (field_coded l e)
 unfolding GoodTree tree_codes tree_octets field_codes rest_codes field_behind rest_behind field_form rest_form field_minimal field_coded
-tree_read b (tree ns ps) l e R w h =
+tree_read_coded b (tree ns ps) l e R w h =
     let N = block_octets 7 128 ns in
     let S = block_octets 7 128 (par_places ps) in
     let P = pars_octets ps in
@@ -146,7 +153,7 @@ tree_read b (tree ns ps) l e R w h =
     let x = behind 128 l e in
     let s = top_stands (par_places ps) l x (P ++ R) (ascends 0 (par_places ps) w.1) a.rest in
     let y = behind 128 l x in
-    let t = pars_read b ps l y R w.2 s.rest in
+    let t = pars_read_coded b ps l y R w.2 s.rest in
     record {
       told = rw (a.numbered b, s.positions, t.told);
       next = rw (s.positions, length-append N (S ++ P), length-append S P) (omega (arith, t.next, s.next, a.next));
@@ -154,6 +161,29 @@ tree_read b (tree ns ps) l e R w h =
       tight = rw (a.minimal, s.positions, s.minimal) t.tight;
       low = rw (a.positions, rising_coded 0 ns w.0, s.positions, rising_coded 0 (par_places ps) w.1) t.low;
     }
+
+-- the same without a word of positions above 511
+module _ {found codes : List ℕ} {end e : ℕ} {octets : List ℕ} {form : Form} {minimal coded : Bool} where
+  plainly : ReadsCoded found codes end e octets form minimal coded → Reads found codes end e octets form minimal
+  plainly r = record { told = r.told; next = r.next; fine = r.fine; tight = r.tight }
+
+subs_read : (c : ℕ) (gs : List Sub) (l : List ℕ) (e : ℕ) (R : List ℕ) → GoodSubs gs → drop e l ≡ marked (subs_octets gs) ++ R → ended l e ≡ none gs
+    → Reads (sub_codes c (sub_places gs) l e) (subs_codes c gs) (subs_behind (length (sub_places gs)) l e) e (marked (subs_octets gs))
+    (subs_form (length (sub_places gs)) l e) (subs_minimal (length (sub_places gs)) l e)
+subs_read c gs l e R w h b = plainly (subs_read_coded c gs l e R w h b)
+
+group_read : (c : ℕ) (gs : List Sub) (l : List ℕ) (e : ℕ) (R : List ℕ) → Rising 0 (sub_places gs) → GoodSubs gs → drop e l ≡ marked (lower_octets gs) ++ R → ended l e ≡ none gs
+    → Reads (group_codes c l e) (subs_codes c gs) (group_behind l e) e (marked (lower_octets gs)) (group_form l e) (group_minimal l e)
+group_read c gs l e R r w h b = plainly (group_read_coded c gs l e R r w h b)
+
+pars_read : (b : ℕ) (ps : List Par) (l : List ℕ) (e : ℕ) (R : List ℕ) → GoodPars ps → drop e l ≡ pars_octets ps ++ R
+    → Reads (par_codes b (par_places ps) l e) (pars_codes b ps) (pars_behind (length (par_places ps)) l e) e (pars_octets ps)
+    (pars_form (length (par_places ps)) l e) (pars_minimal (length (par_places ps)) l e)
+pars_read b ps l e R w h = plainly (pars_read_coded b ps l e R w h)
+
+pub tree_read : (b : ℕ) (T : Tree) (l : List ℕ) (e : ℕ) (R : List ℕ) → GoodTree T → drop e l ≡ tree_octets T ++ R
+    → Reads (field_codes b l e) (tree_codes b T) (field_behind l e) e (tree_octets T) (field_form l e) (field_minimal l e)
+tree_read b T l e R w h = plainly (tree_read_coded b T l e R w h)
 
 -- ---- the tree of any octets
 
@@ -226,8 +256,34 @@ rising_at l short w m e h = rising_all 0 _ (numbers_between w m 0 l e h short)
 
 -- octets whose blocks are short enough for that have none, level by level
 module _ (l : List ℕ) (low : low_fits 0 l ≡ true) where
+  rising_low : (e : ℕ) → Rising 0 (numbers 6 64 0 l e)
+  rising_low e = rising_all 0 _ (low_between 0 l e low)
+
+  good_subs : (ts : List ℕ) (e : ℕ) → GoodSubs (subs_at ts l e)
+  unfolding GoodSubs subs_at
+  good_subs [] e = tt
+  good_subs (t ∷ ts) e = (rising_low e, good_subs ts (behind 64 l e))
+
+  good_group_lem : (e : ℕ) → Rising 0 (sub_places (group_at l e)) × GoodSubs (group_at l e)
+  unfolding group_at
+  good_group_lem e = go (ended l e)
+    where
+      ts : List ℕ
+      ts = numbers 6 64 0 l e
+
+      go : (b : Bool) → Rising 0 (sub_places (pick b [] (subs_at ts l (behind 64 l e)))) × GoodSubs (pick b [] (subs_at ts l (behind 64 l e)))
+      go true = unfold Rising GoodSubs in (tt, tt)
+      go false = (rw (places_subs ts l (behind 64 l e)) (rising_low e), good_subs ts (behind 64 l e))
+
+  good_pars_lem : (ss : List ℕ) (e : ℕ) → GoodPars (pars_at ss l e)
+  unfolding GoodPars pars_at
+  good_pars_lem [] e = tt
+  good_pars_lem (s ∷ ss) e =
+      let g = good_group_lem (behind 64 l e) in
+      (rising_low e, g.0, g.1, good_pars_lem ss (group_behind l (behind 64 l e)))
+
   fits_low : (e : ℕ) → coded_at 6 64 l e ≡ true
-  fits_low e = rising_coded 0 _ (rising_all 0 _ (low_between 0 l e low))
+  fits_low e = rising_coded 0 _ (rising_low e)
 
   fits_subs : (k e : ℕ) → subs_coded k l e ≡ true
   unfolding subs_coded
@@ -300,5 +356,13 @@ tree_coded l e h =
     let c = both_true (coded_at 7 128 l x) _ b.1 in
     (coded_block l 7 128 e b.0, rw (places_pars ss l (behind 128 l x)) (coded_block l 7 128 x c.0), coded_pars l ss (behind 128 l x) c.1)
 
+pub tree_fits : (l : List ℕ) (e : ℕ) → field_fits l e ≡ true → GoodTree (tree_at l e)
+unfolding GoodTree tree_at
+tree_fits l e h =
+    let x = behind 128 l e in
+    let ss = numbers 7 128 0 l x in
+    let f = fits_parts l e h in
+    (rising_all 0 _ (top_between 0 l e f.0), rw (places_pars ss l (behind 128 l x)) (rising_all 0 ss (top_between 0 l x f.1)), good_pars_lem l f.2 ss (behind 128 l x))
+
 pub tree_good : (l : List ℕ) → length l ≤ 64 → (e : ℕ) → GoodTree (tree_at l e)
-tree_good l short e = tree_coded l e (fits_coded l e (fits_short l e short))
+tree_good l short e = tree_fits l e (fits_short l e short)

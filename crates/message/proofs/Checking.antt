@@ -12,7 +12,7 @@ use Rattle.tree.specs.Promises.{TellsEnd}
 use Rattle.tree.specs.Form.{and_then, is_fine, field_form}
 use Rattle.tree.specs.declared.Form.{Form}
 use Rattle.tree.specs.declared.Form.TheVariants.{Fine}
-use Rattle.tree.proofs.Forms.{is_fine_lem, and_bad, form_in, field_fits, end_none, end_some}
+use Rattle.tree.proofs.Forms.{is_fine_lem, and_bad, form_in_lem, field_fits, end_none, end_some}
 use Rattle.message.specs.Check.{no_finding, check_told, check_message}
 use Rattle.message.specs.Nonstandard.{tail_form}
 use Rattle.message.specs.Kinds.{known, has_fields, type_of}
@@ -57,11 +57,11 @@ module _ (l : List ℕ) (due : Due l) where
   -- a field that ends nowhere is broken, and so is the message; else the field is fine
   ends_nowhere : (at : ℕ) {r : ℕ} → TellsEnd l at r → r ≡ 0 → (g : Form) → is_fine (and_then (field_form l at) g) ≡ false
   ends_nowhere at t z g =
-      let b : is_fine (field_form l at) ≡ false = ap is_fine (sym (form_in l at due.1)) ∙ end_none l at t z in
+      let b : is_fine (field_form l at) ≡ false = ap is_fine (sym (form_in_lem l at due.1)) ∙ end_none l at t z in
       ap is_fine (and_bad (field_form l at) g b) ∙ b
 
   ends : (at : ℕ) {r : ℕ} → TellsEnd l at r → (r ≡ 0 → ⊥) → field_form l at ≡ Fine
-  ends at t n = is_fine_lem (field_form l at) (ap is_fine (sym (form_in l at due.1)) ∙ (end_some l at t n).0)
+  ends at t n = is_fine_lem (field_form l at) (ap is_fine (sym (form_in_lem l at due.1)) ∙ (end_some l at t n).0)
 
   module _ {i : ℕ} (t : TellsEnd l 1 i) where
     pub first_broken : i ≡ 0 → check_told Malformed ≡ check_message l

@@ -1,4 +1,6 @@
 // Messages (V.8 bis clause 8): the message reader, and NS as a part of a message.
+#![tactic(auto)]
+
 ghost use Rattle.std.specs.Prelude.{◌≡◌, true, ◌-◌, ◌≤◌, ◌<◌, length};
 ghost use Rattle.octets.specs.Places.{pick};
 ghost use Rattle.message.specs.Kinds.{known, has_fields, type_of};
@@ -37,14 +39,14 @@ const FEWEST_NS: usize = 2;
 const MOST_NS: usize = 63;
 
 // Octets of a message: from where on, and how many.
-#[derive(Drop)]
+#[derive(Clone, Copy)]
 pub struct Span {
     pub at: usize,
     pub length: usize,
 }
 
 // A message that was read: its type and revision, how many codes it has, and where its NS lies.
-#[derive(Drop)]
+#[derive(Clone, Copy)]
 pub struct Message {
     pub kind: u8,
     pub revision: u8,
@@ -53,7 +55,7 @@ pub struct Message {
 }
 
 // The message reader's answer. BadLent: the list has room for fewer than 448 numbers.
-#[derive(Drop)]
+#[derive(Clone, Copy)]
 pub enum MessageRead {
     Read(Message),
     BadLent,
@@ -139,7 +141,7 @@ fn ns_span(s: &[u8], tail: usize) -> Span
 }
 
 // A well-formed message: its type, and where S and what is behind S begin. An ACK and a NAK have neither.
-#[derive(Drop)]
+#[derive(Clone, Copy)]
 pub struct Parts {
     pub kind: u8,
     pub standard: usize,
@@ -147,7 +149,7 @@ pub struct Parts {
 }
 
 // What a message is found to be.
-#[derive(Drop)]
+#[derive(Clone, Copy)]
 pub enum MessageCheck {
     Parted(Parts),
     BadSize,

@@ -361,9 +361,9 @@ unfolding field_form field_behind
 field_go l e n r f q t = told_as t (rw (f, q)) (rw q)
 
 -- in a message's octets the form is the field's
-pub form_in : (l : List ℕ) (at : ℕ) → length l ≤ 64 → form_in l at ≡ field_form l at
+pub form_in_lem : (l : List ℕ) (at : ℕ) → length l ≤ 64 → form_in l at ≡ field_form l at
 unfolding form_in
-form_in l at h = rw (le-ltb 64 (length l) h)
+form_in_lem l at h = rw (le-ltb 64 (length l) h)
 
 -- of more octets the 65th is left over
 pub form_over : (l : List ℕ) (at : ℕ) → 64 < length l → form_in l at ≡ Left 64

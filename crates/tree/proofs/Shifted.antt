@@ -175,9 +175,9 @@ module _ (l r : List ℕ) (e : ℕ) (d : drop e l ≡ r) where
       simp (and_fine, form_moved 64 a, behind_moved 64 a, group_fine x p, group_behind_lem x p, pars_fine k (group_behind r x) (λ n. omega (arith, group_above r x)))
 
   -- the field
-  field_codes : (b a : ℕ) → field_codes b l (e + a) ≡ field_codes b r a
+  field_codes_lem : (b a : ℕ) → field_codes b l (e + a) ≡ field_codes b r a
   unfolding field_codes rest_codes
-  field_codes b a =
+  field_codes_lem b a =
       let x = behind 128 r a in
       let y = behind 128 r x in
       rw (behind_moved 128 a, behind_moved 128 x, octets_moved a, octets_moved x, pars_codes_lem b (numbers 7 128 0 r x) y (some_behind 7 128 0 x (drop x r)))
@@ -209,7 +209,7 @@ module _ (l l' : List ℕ) (e e' : ℕ) (d : drop e l ≡ drop e' l') where
 
   -- the fields there have the same codes
   pub same_codes : (b : ℕ) → field_codes b l e ≡ field_codes b l' e'
-  same_codes b = rw (here, there) at (field_codes l (drop e l) e refl b 0 ∙ sym (field_codes l' (drop e l) e' (sym d) b 0))
+  same_codes b = rw (here, there) at (field_codes_lem l (drop e l) e refl b 0 ∙ sym (field_codes_lem l' (drop e l) e' (sym d) b 0))
 
   -- both are well-formed or neither is
   pub same_fine : is_fine (field_form l e) ≡ is_fine (field_form l' e')

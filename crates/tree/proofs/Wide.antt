@@ -54,7 +54,7 @@ octet_lower j k o h f = go (ltb j low_octets) (ltb k low_octets) (pick (ltb o 64
 low_lower : (j k : ℕ) (l : List ℕ) → j ≤ k → low_fits k l ≡ true → low_fits j l ≡ true
 unfolding low_fits
 low_lower j k [] h f = refl
-low_lower j k (o ∷ l) h f = let p = both_true (octet_fits k o) _ f in rw (octet_lower j k o h p.0) (low_lower _ _ l (less (ltb o 64)) p.1)
+low_lower j k (o ∷ l) h f = let p = both_true (octet_fits k o) _ f in rw (octet_lower j k o h p.0) (low_lower (pick (ltb o 64) (j + 1) 0) (pick (ltb o 64) (k + 1) 0) l (less (ltb o 64)) p.1)
   where
     less : (t : Bool) → pick t (j + 1) 0 ≤ pick t (k + 1) 0
     less true = omega arith
@@ -86,7 +86,7 @@ wide_none f l at h = rw h
 low_few : (k : ℕ) (l : List ℕ) → k + length l ≤ low_octets → low_fits k l ≡ true
 unfolding low_fits
 low_few k [] h = refl
-low_few k (o ∷ l) h = rw (lt-ltb k low_octets (omega arith)) (low_few _ l (less (ltb o 64)))
+low_few k (o ∷ l) h = rw (lt-ltb k low_octets (omega arith)) (low_few (pick (ltb o 64) (k + 1) 0) l (less (ltb o 64)))
   where
     less : (t : Bool) → pick t (k + 1) 0 + length l ≤ low_octets
     less true = omega arith

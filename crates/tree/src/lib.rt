@@ -1,4 +1,6 @@
 // The parameter tree of one field (V.8 bis 8.2): whether it is well-formed, and the places of its blocks.
+#![tactic(auto)]
+
 ghost use Rattle.std.specs.Prelude.{◌+◌, ◌-◌, ◌/◌, ◌^◌, ◌≤◌, ◌<◌, length, ◌≡◌};
 ghost use Rattle.octets.specs.Bits.{odd};
 ghost use Rattle.octets.specs.Places.{pick};
@@ -37,7 +39,7 @@ const LOW_OCTETS: usize = MOST_POSITION / 6;
 const TOP_OCTETS: usize = MOST_POSITION / 7;
 
 // The two fields that are trees.
-#[derive(Drop)]
+#[derive(Clone, Copy)]
 pub enum Field {
     Identification,
     Standard,
@@ -45,7 +47,7 @@ pub enum Field {
 
 // Well-formed, or the first rule that is broken and the place of the octet, from 0: the octets end early, bit 7 or 8 stands
 // against the rules, octets are left over, a length is out of range.
-#[derive(Drop)]
+#[derive(Clone, Copy)]
 pub enum Form {
     Fine,
     Early(usize),
@@ -55,7 +57,7 @@ pub enum Form {
 }
 
 // A form, and the place behind what was read.
-#[derive(Drop)]
+#[derive(Clone, Copy)]
 pub struct Reach {
     pub form: Form,
     pub at: usize,

@@ -5,7 +5,7 @@ use Prim.Native.Nat.{ℕ, ◌+◌, ◌*◌, ◌≤◌, ◌<◌}
 use mathlib.Core.Bool.{Bool, true, false}
 use mathlib.Core.List.{List, [], ◌∷◌, ◌++◌}
 use mathlib.Core.Logic.{⊎_elim}
-use mathlib.Core.Path.{◌≡◌, refl, sym, ◌∙◌}
+use mathlib.Core.Path.{◌≡◌, refl, sym, ◌∙◌, subst⁻¹}
 use native.Mathlib.Omega.{arith}
 use borrow.Author.Tests.{ltb-true, ltb-false, eqb-false}
 use lib.Dec.{ltb, eqb}
@@ -50,7 +50,7 @@ module _ (l : List ℕ) (h : low_fits 0 l ≡ true) where
     stay = λ e. refl;
     pass = λ q qs e. refl;
     from = λ y e. (omega arith, from_ascending y y _ (omega arith) (low_between y l e h).0);
-    below = λ c q e. let n : c + (q + 1) * 512 ≡ c + q * 512 + 512 = omega arith in rw n (omega arith, (low_between (c + q * 512) l e h).1);
+    below = λ c q e. let n : c + (q + 1) * 512 ≡ c + q * 512 + 512 = omega arith in subst⁻¹ (λ (b : ℕ). AllBelow b (sub_one l e (c + q * 512))) n (omega arith, (low_between (c + q * 512) l e h).1);
     rise = λ c q r k. omega arith;
     apart = λ c q. omega arith;
     first = λ y e. in_first y _;
@@ -64,7 +64,7 @@ module _ (l : List ℕ) (h : low_fits 0 l ≡ true) where
     stay = λ e. refl;
     pass = λ q qs e. refl;
     from = λ y e. (omega arith, from_ascending y y _ (omega arith) (par_between y l e h).0);
-    below = λ c q e. let n : c + (q + 1) * of_s ≡ c + q * of_s + of_s = omega arith in rw n (omega arith, (par_between (c + q * of_s) l e h).1);
+    below = λ c q e. let n : c + (q + 1) * of_s ≡ c + q * of_s + of_s = omega arith in subst⁻¹ (λ (b : ℕ). AllBelow b (par_one l e (c + q * of_s))) n (omega arith, (par_between (c + q * of_s) l e h).1);
     rise = λ c q r k. omega arith;
     apart = λ c q. omega arith;
     first = λ y e. in_first y _;

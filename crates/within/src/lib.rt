@@ -1,4 +1,6 @@
 // One field held beside another, block by block: whether all codes of the one are codes of the other.
+#![tactic(auto)]
+
 ghost use Rattle.std.specs.Prelude.{◌+◌, ◌/◌, ◌^◌, ◌≤◌, ◌<◌, true, ◌≡◌};
 ghost use Rattle.tree.specs.Block.{behind};
 ghost use Rattle.tree.specs.Wide.{low_fits, field_fits};
@@ -37,7 +39,7 @@ fn next_place(t: &[u8], k: usize, m: u8) -> usize
 }
 
 // Whether all so far was found, and the places behind it in both runs of octets.
-#[derive(Drop)]
+#[derive(Clone, Copy)]
 struct Paired {
     fits: bool,
     from: usize,
@@ -134,7 +136,7 @@ fn block_within(s: &[u8], e: usize, t: &[u8], k: usize, w: u32, m: u8) -> Paired
 
 // A walk over the positions that are set in a block of the other octets, with the same block of the first: the places of the octets
 // that come next, what is left of those before, and whether the position that was found last is set in the first too.
-#[derive(Drop)]
+#[derive(Clone, Copy)]
 struct Walk {
     i: usize,
     j: usize,

@@ -1,4 +1,6 @@
 // The message writer (V.8 bis clause 8; RULES): a message of a type, a revision, a list of codes and NS, always in minimal form.
+#![tactic(auto)]
+
 ghost use Rattle.std.specs.Prelude.{◌≡◌, true, [], ◌∷◌, ◌++◌, ◌+◌, ◌-◌, ◌*◌, ◌%◌, ◌^◌, ◌≤◌, ◌<◌, length, get_or, set, drop};
 ghost use Rattle.tree.specs.Codes.{of_f, field_base};
 ghost use Rattle.tree.specs.Fields.{is_in, most_octets};
@@ -22,7 +24,7 @@ const TOO_MANY: usize = MOST_OCTETS + 1;
 const NON_STANDARD: u32 = IDENTIFICATION + 7;
 
 // The message writer's answer: the number of octets, or why there are none. BadLent: the output is under 64 octets.
-#[derive(Drop)]
+#[derive(Clone, Copy)]
 pub enum MessageWritten {
     Octets(usize),
     BadLent,
@@ -159,7 +161,7 @@ fn put_octet(out: &mut [u8], at: usize, octet: u8) -> usize
 }
 
 // The octet at hand: where it goes, what it has so far, and the position below its first.
-#[derive(Drop)]
+#[derive(Clone, Copy)]
 struct Hand {
     at: usize,
     octet: u8,
