@@ -4,18 +4,16 @@
 use Prim.Native.Nat.{ℕ, zero, suc, ◌≤◌, ◌<◌}
 use mathlib.Core.Bool.{Bool, true, false}
 use mathlib.Core.List.{List, [], ◌∷◌}
-use mathlib.Core.Path.{◌≡◌, refl, sym, ap, ◌∙◌}
+use mathlib.Core.Path.{◌≡◌, refl, sym, ◌∙◌}
 use native.Mathlib.Omega.{arith}
 use borrow.Author.Tests.{leb-true, le-leb, lt-leb}
 use lib.Dec.{leb, eqb}
 use lib.ListN.{length, take, drop}
 use Rattle.octets.specs.Places.{pick, both}
-use Rattle.octets.proofs.Laws.{both_true}
 use Rattle.tree.specs.Codes.{field_base, field_codes, field_behind}
 use Rattle.tree.specs.Form.{is_fine, field_form}
 use Rattle.tree.specs.Fields.{is_in, all_in, has_spar}
 use Rattle.tree.specs.declared.Field.TheVariants.{Standard}
-use Rattle.tree.proofs.Within.{all_in-is_in}
 use Rattle.message.proofs.Room.{codes_in_lem}
 use Rattle.meaning.specs.Minimal.{field_minimal}
 use Rattle.names.specs.Named.{standard_code}

@@ -1,5 +1,7 @@
 // Own table, wishes, choice and verdict (RULES, Own table, wishes, choice). The wishes are a run of records, walked from its
 // front; nothing of it is held.
+#![tactic(auto)]
+
 ghost use Rattle.std.specs.Prelude.{◌≡◌, true, ◌≤◌, ◌<◌, length};
 ghost use Rattle.octets.specs.Places.{pick, both};
 ghost use Rattle.tree.specs.Fields.{all_in, codes_in, has_spar};
@@ -22,7 +24,7 @@ mod learn;
 const MOST_WISHES: usize = 16;
 
 // What the own table and the wishes are found to be.
-#[derive(Drop)]
+#[derive(Clone, Copy)]
 pub enum Tables {
     Good,
     BadOwn,
@@ -31,7 +33,7 @@ pub enum Tables {
 }
 
 // A wish that was chosen: its number, from 1, and where its standard field lies in the wishes' run.
-#[derive(Drop)]
+#[derive(Clone, Copy)]
 pub struct Pick {
     pub number: usize,
     pub at: usize,
@@ -39,14 +41,14 @@ pub struct Pick {
 }
 
 // The choice among the wishes.
-#[derive(Drop)]
+#[derive(Clone, Copy)]
 pub enum Choice {
     Chosen(Pick),
     NoChoice,
 }
 
 // The verdict on a mode select.
-#[derive(Drop)]
+#[derive(Clone, Copy)]
 pub enum Verdict {
     Accepted,
     NotReady,
@@ -54,7 +56,7 @@ pub enum Verdict {
 }
 
 // A record of the wishes: whether it is ready, and from where to where its standard field lies.
-#[derive(Drop)]
+#[derive(Clone, Copy)]
 struct Slot {
     ready: bool,
     start: usize,
@@ -62,7 +64,7 @@ struct Slot {
 }
 
 // What stands at a place of the wishes' run: a record, or none that is whole.
-#[derive(Drop)]
+#[derive(Clone, Copy)]
 enum Entry {
     Record(Slot),
     Over,

@@ -1,5 +1,7 @@
 // The named parameters of V.8 bis, Tables 5-1 to 5-3 and 6-1 to 6-10: for a block of parameters, which of its positions are kept when
 // a field is rewritten. No table is held: a block's names are one number with a bit for each position.
+#![tactic(auto)]
+
 ghost use Rattle.std.specs.Prelude.{◌≡◌, ◌+◌, ◌*◌};
 ghost use Rattle.std.specs.Int.Bits.{bit_and};
 ghost use Rattle.tree.specs.Codes.{code_of};
@@ -25,7 +27,7 @@ const BUT_6: u32 = PRINTED - 0x20;
 const BUT_6_AND_12: u32 = BUT_6 - 0x800;
 
 // What is kept of a field: all, the named parameters, or those of them that are no non-standard bits.
-#[derive(Drop)]
+#[derive(Clone, Copy)]
 pub enum Keep {
     All,
     Named,
@@ -33,7 +35,7 @@ pub enum Keep {
 }
 
 // The positions of a block that are kept: all, or those whose bits are set, position 1 the lowest.
-#[derive(Drop)]
+#[derive(Clone, Copy)]
 pub struct Places {
     pub all: bool,
     pub bits: u32,

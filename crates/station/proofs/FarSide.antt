@@ -15,7 +15,7 @@ use Rattle.tree.specs.Form.{field_form}
 use Rattle.tree.specs.Fields.{is_in, codes_in, most_octets}
 use Rattle.tree.specs.declared.Field.TheVariants.{Identification, Standard}
 use Rattle.tree.specs.declared.Form.TheVariants.{Fine}
-use Rattle.tree.proofs.Forms.{form_in}
+use Rattle.tree.proofs.Forms.{form_in_lem}
 use Rattle.tree.proofs.Wide.{wide_short}
 use Rattle.message.specs.Kinds.{has_fields, type_of}
 use Rattle.message.specs.Reader.{list_room, standard_at, message_codes, read_message, accepted}
@@ -69,7 +69,7 @@ module _ (m : List ℕ) (e : read_message m list_room ≡ accepted) (h : has_fie
   -- so what is kept of it is written where there is room for a message
   pub all_kept : (k : Keep) (room : ℕ) → most_octets ≤ room → rewritten k Standard m (standard_at m) room ≡ kept k Standard m (standard_at m)
   unfolding rewritten
-  all_kept k room r = rw (le-ltb room most_octets r, form_in m (standard_at m) few, standard_fine)
+  all_kept k room r = rw (le-ltb room most_octets r, form_in_lem m (standard_at m) few, standard_fine)
 
 -- so rewriting it into a store with room for a message stores what is kept of it
 pub stores_kept : {k : Keep} {m : List ℕ} {at n : ℕ} {store₀ store₁ : List ℕ} → Standing m at → most_octets ≤ length store₀ → Rewrites k Standard m at store₀ n store₁

@@ -18,7 +18,7 @@ use Rattle.tree.specs.Order.{Ascending}
 use Rattle.tree.specs.Fields.{codes_in}
 use Rattle.tree.specs.declared.Field.TheVariants.{Standard}
 use Rattle.tree.proofs.Ascending.{field_ascending}
-use Rattle.tree.proofs.Forms.{form_in}
+use Rattle.tree.proofs.Forms.{form_in_lem}
 use Rattle.message.proofs.Room.{laid_behind}
 use Rattle.meaning.specs.Written.{block_from, run, from, positions, pars_written, rest_written, written}
 use Rattle.octets.specs.Places.{both}
@@ -120,7 +120,7 @@ unfolding rewritten kept codes_in
 good_written t o h =
     let g = good_parts t h in
     let few : length t ≤ 64 = omega (arith, g.short) in
-    rw (le-ltb 64 (length t) few) (rw (form_in t 0 few, g.fine, le-ltb 64 (length t) few, standard_stay (field_codes (field_base 2) t 0) g.standard) at (good_stays t o h))
+    rw (le-ltb 64 (length t) few) (rw (form_in_lem t 0 few, g.fine, le-ltb 64 (length t) few, standard_stay (field_codes (field_base 2) t 0) g.standard) at (good_stays t o h))
 
 module _ (kind : ℕ) (offer : Offer) (own : List ℕ) (fields : kind ≤ 3) (octets : AreOctets own) (good : good_field own ≡ true) where
   -- a message with an offer and a good field's codes, octet for octet

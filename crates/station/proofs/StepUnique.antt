@@ -31,17 +31,17 @@ told_back n =
     NothingToPropose))))))))
 
 -- each has a number of its own
-told_back : (t : Told) → told_back (told_no t) ≡ t
-told_back Done = refl
-told_back BadLent = refl
-told_back BadOwn = refl
-told_back BadWishes = refl
-told_back Outside = refl
-told_back TimeBefore = refl
-told_back TimedOut = refl
-told_back UnknownType = refl
-told_back NotInTable = refl
-told_back NothingToPropose = refl
+told_back_lem : (t : Told) → told_back (told_no t) ≡ t
+told_back_lem Done = refl
+told_back_lem BadLent = refl
+told_back_lem BadOwn = refl
+told_back_lem BadWishes = refl
+told_back_lem Outside = refl
+told_back_lem TimeBefore = refl
+told_back_lem TimedOut = refl
+told_back_lem UnknownType = refl
+told_back_lem NotInTable = refl
+told_back_lem NothingToPropose = refl
 
 -- the answer that a reply tells
 abbrev step_back : Reply → Stepped
@@ -55,13 +55,13 @@ step_back x =
       state = record { phase = x.next };
     }
 
-step_back : (r : Stepped) → step_back (step_told r) ≡ r
-step_back r = rw (told_back r.told)
+step_back_lem : (r : Stepped) → step_back (step_told r) ≡ r
+step_back_lem r = rw (told_back_lem r.told)
 
 pub step_unique : (o : Outcome) (out₀ store₀ : List ℕ) (r r' : Stepped) (out₁ out₁' store₁ store₁' : List ℕ) → Did o out₀ store₀ r out₁ store₁ → Did o out₀ store₀ r' out₁' store₁'
     → (r ≡ r') × (out₁ ≡ out₁') × (store₁ ≡ store₁')
 step_unique o out₀ store₀ r r' out₁ out₁' store₁ store₁' d d' = (
-  sym (step_back r) ∙ ap step_back (one_reply d.reply d'.reply) ∙ step_back r',
+  sym (step_back_lem r) ∙ ap step_back (one_reply d.reply d'.reply) ∙ step_back_lem r',
   one_reply d.output d'.output,
   one_reply d.store d'.store,
 )

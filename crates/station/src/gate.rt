@@ -16,7 +16,7 @@ const STORE_ROOM: usize = 64;
 const LONGEST: u64 = 5000;
 
 // Whether the event goes on to the table; else what is told, and the next phase.
-#[derive(Drop)]
+#[derive(Clone, Copy)]
 pub(crate) enum Gate {
     Open,
     Shut(Told, Phase),

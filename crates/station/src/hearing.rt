@@ -8,7 +8,7 @@ use message::{ACK_1, ACK_2, CL, CLR, MS, MessageCheck, check_message};
 use table::Heard;
 
 // What was heard, and where the standard field of a message with fields is; or that the type of a message is unknown.
-#[derive(Drop)]
+#[derive(Clone, Copy)]
 pub(crate) enum Hearing {
     Thing(Heard, usize),
     Unknown,

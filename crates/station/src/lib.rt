@@ -2,6 +2,8 @@
 // into the output, the far side's standard field into the store; the state is a value that the caller keeps. A step goes through the
 // modules in this order: gate (reset, refusals 1 to 6, and 10 in Mode), hearing (what the event is to the table), acts (what the table says
 // is to be done: a plan), sending (the plan carried out: what is lent is written there alone).
+#![tactic(auto)]
+
 ghost use Rattle.std.specs.Prelude.{◌≡◌};
 ghost use Rattle.station.specs.Stepping.{told_no, step_told};
 ghost use Rattle.station.specs.Promises.{TellsBegun, Steps};
@@ -17,7 +19,7 @@ mod hearing;
 mod sending;
 
 // An event. The information field heard is lent beside it, and looked at only for Field.
-#[derive(Drop)]
+#[derive(Clone, Copy)]
 pub enum Event {
     Start(Start),
     Signal(Signal),
@@ -28,14 +30,14 @@ pub enum Event {
 }
 
 // The signal to send.
-#[derive(Drop)]
+#[derive(Clone, Copy)]
 pub enum Sends {
     NoSignal,
     Signal(Signal),
 }
 
 // Whether the event was acted on, or why not. BadLent: the output or the store is too small.
-#[derive(Drop)]
+#[derive(Clone, Copy)]
 pub enum Told {
     Done,
     BadLent,
@@ -51,7 +53,7 @@ pub enum Told {
 
 // A step's answer: what it tells, the signal to send, the lengths of the first and second field sent and of what was stored, and
 // the next state.
-#[derive(Drop)]
+#[derive(Clone, Copy)]
 pub struct Stepped {
     pub told: Told,
     pub signal: Sends,
@@ -62,7 +64,7 @@ pub struct Stepped {
 }
 
 // What the identification field of a message says.
-#[derive(Drop)]
+#[derive(Clone, Copy)]
 pub struct Offer {
     pub v8: bool,
     pub short_v8: bool,
@@ -70,14 +72,14 @@ pub struct Offer {
 }
 
 // What the far side offers.
-#[derive(Drop)]
+#[derive(Clone, Copy)]
 pub struct FarOffer {
     pub v8: bool,
     pub short_v8: bool,
 }
 
 // What a step is given beside the event and what is lent.
-#[derive(Drop)]
+#[derive(Clone, Copy)]
 pub(crate) struct Call {
     pub(crate) phase: Phase,
     pub(crate) settings: Settings,

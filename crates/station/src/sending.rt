@@ -20,7 +20,7 @@ pub(crate) const REVISION_2: u8 = 0x20;
 
 // A message to send: none; one of a single octet; a CL or a CLR with the own table; the MS of a wish, by the place and the length of
 // its field in the wishes.
-#[derive(Drop)]
+#[derive(Clone, Copy)]
 pub(crate) enum Outgoing {
     Nothing,
     Octet(u8),
@@ -29,14 +29,14 @@ pub(crate) enum Outgoing {
 }
 
 // What goes into the store: nothing, or what is kept of the standard field heard, which is at a place.
-#[derive(Drop)]
+#[derive(Clone, Copy)]
 pub(crate) enum Storing {
     Leave,
     Kept(Keep, usize),
 }
 
 // What is to be done: what is told, the signal to send, the two messages, what is stored, and the next phase.
-#[derive(Drop)]
+#[derive(Clone, Copy)]
 pub(crate) struct Plan {
     pub(crate) told: Told,
     pub(crate) signal: Sends,

@@ -14,7 +14,7 @@ use Rattle.tree.specs.Codes.{field_base, field_codes, field_behind}
 use Rattle.tree.specs.Form.{is_fine}
 use Rattle.tree.specs.Fields.{codes_in, form_in}
 use Rattle.tree.specs.declared.Field.TheVariants as fields
-use Rattle.tree.proofs.Forms.{form_in, field_fits}
+use Rattle.tree.proofs.Forms.{form_in_lem, field_fits}
 use Rattle.meaning.specs.Written.{written}
 use Rattle.meaning.proofs.Growing.{written_tree}
 use Rattle.octets.proofs.Laws.{both_true}
@@ -51,7 +51,7 @@ good_stays t o h =
     let g = good_parts t h in
     let few : length t ≤ 64 = omega (arith, g.short) in
     let made = rw (tree_codes_lem (field_base 2) t 0) at (written_tree (field_base 2) (tree_at t 0) (tree_good t few 0)) in
-    rw (form_in t 0 few, g.fine, le-ltb 64 (length t) few, standard_stay (field_codes (field_base 2) t 0) g.standard, made) (good_tree t o g)
+    rw (form_in_lem t 0 few, g.fine, le-ltb 64 (length t) few, standard_stay (field_codes (field_base 2) t 0) g.standard, made) (good_tree t o g)
 
 -- what is left is all standard
 left_standard : (l : List ℕ) → all_standard (only standard_code l) ≡ true

@@ -1,5 +1,7 @@
 // Striking (RULES, Striking): a field is rewritten block by block with what is kept of it, so that no list of numbers is
 // ever held; and a message is struck.
+#![tactic(auto)]
+
 ghost use Rattle.std.specs.Prelude.{false, ◌≡◌, ◌+◌, ◌-◌, ◌*◌, ◌/◌, ◌%◌, ◌^◌, ◌≤◌, ◌<◌, eqb, length, drop};
 ghost use Rattle.std.specs.Int.Bits.{bit_and};
 ghost use Rattle.std.proofs.lemmas.List.Edits.{sets};
@@ -24,14 +26,14 @@ use octets::octet_or_zero;
 use tree::{Field, MOST_OCTETS, OF_S, OF_T, base_of, block_behind, field_end, top_behind};
 
 // How far reading and writing have come.
-#[derive(Drop)]
+#[derive(Clone, Copy)]
 struct Spot {
     from: usize,
     to: usize,
 }
 
 // What is kept of the positions of an SPar block: the code that they stand under, and which of them are kept.
-#[derive(Drop)]
+#[derive(Clone, Copy)]
 struct Branch {
     keep: Keep,
     base: u32,
@@ -39,7 +41,7 @@ struct Branch {
 }
 
 // The answer to striking: the number of octets, or why there are none. BadLent: the output is under 64 octets.
-#[derive(Drop)]
+#[derive(Clone, Copy)]
 pub enum Struck {
     Octets(usize),
     BadLent,
@@ -98,7 +100,7 @@ fn is_kept(places: Places, q: u32) -> bool
 }
 
 // The minimal block of what is kept: how many octets it has; and the place behind the block.
-#[derive(Drop)]
+#[derive(Clone, Copy)]
 struct Extent {
     count: usize,
     end: usize,

@@ -1,12 +1,14 @@
 // The station's phases, what it can hear, how it is set, and its table (RULES, The station): from a phase and what was heard to
 // what is done. Signals and messages have one spelling everywhere: MR_e is MrE, or mr_e in a name of more words.
+#![tactic(auto)]
+
 ghost use Rattle.std.specs.Prelude.{false, ◌≡◌};
 ghost use Rattle.table.specs.Rows.{on_mr_e, on_mr_d, on_cr_d, on_cr_e, start_act, signal_act, initial_act, row_signal, row_act, tone_act, judging_row, taking_row, agreeing_row};
 ghost use Rattle.table.specs.Promises.{TellsCarried, TellsNumber, TellsOver, TellsMode, TellsAct};
 
 // A phase with what it carries: the time it was entered (milliseconds), and where an MS was sent or accepted the number of the wish
 // sent, 0 if none, and whether ACK was asked.
-#[derive(Drop)]
+#[derive(Clone, Copy)]
 pub enum Phase {
     Initial(u64),
     AskedE(u64),
@@ -23,13 +25,13 @@ pub enum Phase {
 }
 
 // The station's state.
-#[derive(Drop)]
+#[derive(Clone, Copy)]
 pub struct State {
     pub phase: Phase,
 }
 
 // A phase by its name alone.
-#[derive(Drop)]
+#[derive(Clone, Copy)]
 pub enum Kind {
     AtInitial,
     AtAskedE,
@@ -46,7 +48,7 @@ pub enum Kind {
 }
 
 // A phase's name, and what it carries; where it carries no wish and no ACK, 0 and false.
-#[derive(Drop)]
+#[derive(Clone, Copy)]
 pub struct Carried {
     pub kind: Kind,
     pub entry: u64,
@@ -55,7 +57,7 @@ pub struct Carried {
 }
 
 // A signal, heard or sent.
-#[derive(Drop)]
+#[derive(Clone, Copy)]
 pub enum Signal {
     MrE,
     MrD,
@@ -64,7 +66,7 @@ pub enum Signal {
 }
 
 // What a transaction begins with: a signal or a message.
-#[derive(Drop)]
+#[derive(Clone, Copy)]
 pub enum Start {
     MrE,
     MrD,
@@ -76,7 +78,7 @@ pub enum Start {
 }
 
 // What to answer on MR_e.
-#[derive(Drop)]
+#[derive(Clone, Copy)]
 pub enum OnMrE {
     Ms,
     MrD,
@@ -84,28 +86,28 @@ pub enum OnMrE {
 }
 
 // What to answer on CR_d.
-#[derive(Drop)]
+#[derive(Clone, Copy)]
 pub enum OnCrD {
     Cl,
     Clr,
 }
 
 // What to answer on CR_e: the same as on CR_d, or CR_d.
-#[derive(Drop)]
+#[derive(Clone, Copy)]
 pub enum OnCrE {
     AsOnCrD,
     CrD,
 }
 
 // What to answer on MR_d when MR_e was asked.
-#[derive(Drop)]
+#[derive(Clone, Copy)]
 pub enum OnMrD {
     Ms,
     CrD,
 }
 
 // How the station is set: what it offers, whether it asks for ACK(1), and what it answers.
-#[derive(Drop)]
+#[derive(Clone, Copy)]
 pub struct Settings {
     pub v8: bool,
     pub short_v8: bool,
@@ -117,7 +119,7 @@ pub struct Settings {
 }
 
 // What comes to the table: a start, a signal, a message by its type, the answer tone, or what is spoilt.
-#[derive(Drop)]
+#[derive(Clone, Copy)]
 pub enum Heard {
     Start(Start),
     Signal(Signal),
@@ -132,7 +134,7 @@ pub enum Heard {
 }
 
 // What follows when a list was heard and stored: the chosen MS; a CL and the chosen MS; a CL; nothing.
-#[derive(Drop)]
+#[derive(Clone, Copy)]
 pub enum After {
     ThenMs,
     ThenClMs,
@@ -141,7 +143,7 @@ pub enum After {
 }
 
 // What is done.
-#[derive(Drop)]
+#[derive(Clone, Copy)]
 pub enum Act {
     NoRow,
     SendSignal(Signal),
@@ -158,7 +160,7 @@ pub enum Act {
 }
 
 // A row of the table: what is done when each thing is heard that some phase but Initial and Mode acts on.
-#[derive(Drop)]
+#[derive(Clone, Copy)]
 struct Row {
     mr_d: Act,
     cr_d: Act,
