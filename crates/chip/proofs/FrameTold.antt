@@ -23,8 +23,8 @@ use Rattle.chip.specs.declared.FrameWriteAnswer.{FrameWriteAnswer}
 
 module _ (run : List ℕ) (count : ℕ) {out₀ : List ℕ} {r : FrameRead} {out₁ : List ℕ} (t : Reads (read_frame run count (length out₀)) out₀ r out₁) (v : FrameRead) (e : r ≡ v) where
   -- an answer, told as a number and octets
-  pub read_told : (a : FrameReadAnswer) → a ≡ frame_read_answer (read_told v) → ReadsFrame run count out₀ a out₁
-  read_told a h = record { reply = h ∙ ap (λ (w : FrameRead). frame_read_answer (read_told w)) (sym e) ∙ ap frame_read_answer t.reply; output = t.output }
+  pub read_told_lem : (a : FrameReadAnswer) → a ≡ frame_read_answer (read_told v) → ReadsFrame run count out₀ a out₁
+  read_told_lem a h = record { reply = h ∙ ap (λ (w : FrameRead). frame_read_answer (read_told w)) (sym e) ∙ ap frame_read_answer t.reply; output = t.output }
 
   -- at most 64 octets
   pub octets_few : (read_told v).count ≤ most_information

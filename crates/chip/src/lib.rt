@@ -1,5 +1,7 @@
 // What the chip's firmware calls from C (RULES, Scope 5: the frame reader, the frame writer and the message reader): three
-// functions on numbers and slices, each with the promise of the operation that it passes on.
+// functions on numbers and slices, each with the promise of the operation that it passes on. Crate `chip_c` exports them.
+#![tactic(auto)]
+
 ghost use Rattle.std.specs.Prelude.{◌≡◌};
 ghost use Rattle.chip.specs.Answers.{ReadsFrame, WritesFrame, ReadsMessage};
 
@@ -8,7 +10,7 @@ use message::{MessageRead, read_octets};
 
 // What the frame reader answers: the rules' number, 0 for success, and the number of octets read.
 #[repr(C)]
-#[derive(Drop)]
+#[derive(Clone, Copy)]
 pub struct FrameReadAnswer {
     pub refusal: u32,
     pub octets: u32,
@@ -16,7 +18,7 @@ pub struct FrameReadAnswer {
 
 // What the frame writer answers: the rules' number, 0 for success, and the number of bits written.
 #[repr(C)]
-#[derive(Drop)]
+#[derive(Clone, Copy)]
 pub struct FrameWriteAnswer {
     pub refusal: u32,
     pub bits: u32,
@@ -25,7 +27,7 @@ pub struct FrameWriteAnswer {
 // What the message reader answers: the rules' number, 0 for success, and then the type, the revision, the number of codes, and
 // where NS lies.
 #[repr(C)]
-#[derive(Drop)]
+#[derive(Clone, Copy)]
 pub struct MessageAnswer {
     pub refusal: u32,
     pub kind: u32,
@@ -36,8 +38,7 @@ pub struct MessageAnswer {
 }
 
 // The frame reader: the information of the frame in the first bits of the run.
-#[unsafe(no_mangle)]
-pub extern "C" fn kamvezhor_read_frame(run: &[u8], bits: usize, out: &mut [u8]) -> FrameReadAnswer
+pub fn kamvezhor_read_frame(run: &[u8], bits: usize, out: &mut [u8]) -> FrameReadAnswer
     ensures { ReadsFrame run.now bits out.old result out.new }
 {
     match read_frame(run, bits, out) {
@@ -64,9 +65,10 @@ fn read_refusal(no: u32) -> FrameReadAnswer
     }
 }
 
-// The frame writer: a frame of the information with so many opening and closing flags.
-#[unsafe(no_mangle)]
-pub extern "C" fn kamvezhor_write_frame(
+// The frame writer: a frame of the information with so many opening and closing flags. It stays a function behind its export, which
+// would otherwise take more ROM than the C header tells.
+#[inline(never)]
+pub fn kamvezhor_write_frame(
     information: &[u8],
     opening: usize,
     closing: usize,
@@ -110,8 +112,7 @@ fn message_refusal(no: u32) -> MessageAnswer
 }
 
 // The message reader: it fills the front of the list with the message's codes, in ascending order, four octets to each, lowest first.
-#[unsafe(no_mangle)]
-pub extern "C" fn kamvezhor_read_message(message: &[u8], list: &mut [u8]) -> MessageAnswer
+pub fn kamvezhor_read_message(message: &[u8], list: &mut [u8]) -> MessageAnswer
     ensures { ReadsMessage message.now list.old result list.new }
 {
     match read_octets(message, list) {

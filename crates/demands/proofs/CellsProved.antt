@@ -8,7 +8,7 @@ use native.Mathlib.Omega.{arith}
 use borrow.Author.Tests.{ne_eqb}
 use lib.ListN.{length}
 use Rattle.message.proofs.Accepted.{accepted_passed}
-use Rattle.choice.specs.Choosing.{unheard, heard}
+use Rattle.choice.specs.Choosing.{unheard}
 use Rattle.choice.proofs.Truths.{never}
 use Rattle.table.specs.declared.Phase.{Phase}
 use Rattle.table.specs.declared.Phase.TheVariants.{Initial, AskedE, Listed, Traded, Pair, Half, Proposed, Mode}
@@ -24,7 +24,7 @@ use Rattle.table.specs.declared.Settings.{Settings}
 use Rattle.table.specs.Phases.{kind_of, ack_of}
 use Rattle.table.specs.Rows.{act_of}
 use Rattle.table.specs.Phases.{is_among}
-use Rattle.table.proofs.Lines.{each, within, start_only_in_initial, mr_e_answered, cr_e_answered, cr_d_answered, ms_judged, ack1_agrees, ack2_never, tone_though_asked}
+use Rattle.table.proofs.Lines.{each, within, start_only_in_initial, mr_e_answered, cr_e_answered, cr_d_answered, ms_judged, ack1_agrees, ack2_never}
 use Rattle.station.specs.Sending.{sent_list}
 use Rattle.station.specs.Sorting.{known, sort_of, type_heard}
 use Rattle.station.specs.Acting.{quiet, sends, far_list, stored_list}

@@ -55,14 +55,14 @@ demand_one =
       write_frame = λ info opening closing out. frameWriting.write_unique (write_frame info opening closing (length out)) out;
       bit8 = λ s e. by_equation;
       mark_last = λ out e. by_equation;
-      is_fine_lem = λ form. by_equation;
+      is_fine = λ form. by_equation;
       field_form = λ s at. by_equation;
       field_end = λ s at. by_equation;
       base_of = λ field. by_equation;
       has_spar = λ s at. by_equation;
       top_behind = λ s e. by_equation;
       block_behind = λ s e. by_equation;
-      group_behind_lem = λ s e. by_equation;
+      group_behind = λ s e. by_equation;
       field_fits = λ s at. by_equation;
       fill_fields = λ s i j list octets r r' list₁ list₁' octets₁ octets₁' a b.
           (unique.one_reply a.count b.count, unique.one_reply a.list b.list, unique.one_reply a.octets b.octets);

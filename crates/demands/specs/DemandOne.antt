@@ -75,14 +75,14 @@ pub record DemandOne : Type 0 where
   pub bit8 : (s : List ℕ) (e : ℕ) → OneReply (TellsBit8 s e)
   -- it replies nothing, and leaves one content
   pub mark_last : (out : List ℕ) (e : ℕ) → OneReply (MarksLast out e)
-  pub is_fine_lem : (form : Form) → OneReply (TellsFine form)
+  pub is_fine : (form : Form) → OneReply (TellsFine form)
   pub field_form : (s : List ℕ) (at : ℕ) → OneReply (TellsForm s at)
   pub field_end : (s : List ℕ) (at : ℕ) → OneReply (TellsEnd s at)
   pub base_of : (field : Field) → OneReply (TellsBase field)
   pub has_spar : (s : List ℕ) (at : ℕ) → OneReply (TellsSpar s at)
   pub top_behind : (s : List ℕ) (e : ℕ) → OneReply (TellsTopBehind s e)
   pub block_behind : (s : List ℕ) (e : ℕ) → OneReply (TellsBlockBehind s e)
-  pub group_behind_lem : (s : List ℕ) (e : ℕ) → OneReply (TellsGroupBehind s e)
+  pub group_behind : (s : List ℕ) (e : ℕ) → OneReply (TellsGroupBehind s e)
   pub field_fits : (s : List ℕ) (at : ℕ) → OneReply (TellsFits s at)
   -- one reply, and one content of either list
   pub fill_fields : (s : List ℕ) (i j : ℕ) (list octets : List ℕ) (r r' : ℕ) (list₁ list₁' octets₁ octets₁' : List ℕ)

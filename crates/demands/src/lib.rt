@@ -1,5 +1,7 @@
 // The three demands as theorems over what the contracts of the other crates cite, the proved bench positions in one list, and one
 // operation that sends a list there and back: its contract says of the four operations that it calls that the list comes back.
+#![tactic(auto)]
+
 ghost use Rattle.std.specs.Prelude.{◌≡◌, List, ℕ};
 ghost use Rattle.frame.specs.Limits.{information_room};
 ghost use Rattle.frame.specs.Reader.{information, read_frame};
@@ -11,14 +13,14 @@ use message::{MessageRead, read_message};
 use writer::{MessageWritten, write_message};
 
 // How many flags a frame begins and ends with.
-#[derive(Drop)]
+#[derive(Clone, Copy)]
 pub struct Flags {
     pub opening: usize,
     pub closing: usize,
 }
 
 // What came of a trip: no message was written, or it got no frame, or this was read at the end.
-#[derive(Drop)]
+#[derive(Clone, Copy)]
 pub enum Trip {
     Unwritten,
     Unframed,

@@ -1,5 +1,7 @@
 // What bench/ measures from C: a step of the station, the message reader and writer, and striking, on numbers and slices alone. No
 // part of the public side.
+#![tactic(auto)]
+
 use message::MessageRead;
 use station::{Event, Stepped};
 use strike::Struck;
