@@ -1,9 +1,12 @@
 // The README's transaction: two boards on one table agree on a mode, over frames, by one call of `step` for each event. A cartridge
 // is one of the two: it has its chip in place of `hear`, and its own tables, settings and clock.
+#![tactic(auto)]
+
 mod words;
 
 use frame::{FrameRead, FrameWritten};
 use station::{Event, Sends, Stepped};
+use std::io;
 use table::State;
 
 // What a board can do, as an S field: telephony, and data by V.42 and V.34. A can do V.42 bis too.
@@ -54,13 +57,14 @@ fn part(run: &[u8], start: usize, length: usize) -> &[u8] {
 
 // One step of a board, and what there is in its answer.
 fn turn(
+    rt: &impl Print,
     name: u8,
     state: State,
     event: Event,
     field: &[u8],
     out: &mut [u8],
     store: &mut [u8],
-) -> Stepped {
+) -> io::Result<Stepped> {
     let own = own_table(name);
     let wishes = wishes_of(name);
     let set = settings();
@@ -70,16 +74,16 @@ fn turn(
     let signal = stepped.signal;
     let next = stepped.state;
     // A refusal sends nothing: 1 to 5 are the caller's mistakes, by 6 and 11 all is over, by 9 and 10 nothing has changed.
-    words::print_refusal(name, told);
+    words::print_refusal(rt, name, told)?;
     // What the other board can do, or the mode that it proposed.
-    words::print_stored(name, part(store, 0, stepped.stored));
+    words::print_stored(rt, name, part(store, 0, stepped.stored))?;
     // For the chip: a signal, or one field or two, each in a frame of its own.
-    words::print_signal(name, signal);
-    words::print_sent(name, part(out, 0, stepped.first));
-    words::print_sent(name, part(out, stepped.first, stepped.second));
+    words::print_signal(rt, name, signal)?;
+    words::print_sent(rt, name, part(out, 0, stepped.first))?;
+    words::print_sent(rt, name, part(out, stepped.first, stepped.second))?;
     // For the board's next step.
-    words::print_phase(name, next);
-    stepped
+    words::print_phase(rt, name, next)?;
+    Ok(stepped)
 }
 
 // Puts the frame of a field on the line, and gives its bits: none for a field of no octets, which is refused.
@@ -91,43 +95,84 @@ fn send(field: &[u8], line: &mut [u8]) -> usize {
 }
 
 // A board hears a field that the other sent: it comes as the bits of a frame.
-fn hear(name: u8, state: State, sent: &[u8], out: &mut [u8], store: &mut [u8]) -> Stepped {
+fn hear(
+    rt: &impl Print,
+    name: u8,
+    state: State,
+    sent: &[u8],
+    out: &mut [u8],
+    store: &mut [u8],
+) -> io::Result<Stepped> {
     let mut line = [0u8; 88];
     let bits = send(sent, &mut line);
     let mut field = [0u8; 64];
     match frame::read_frame(&line, bits, &mut field) {
-        FrameRead::Octets(n) => turn(name, state, Event::Field, part(&field, 0, n), out, store),
-        _ => turn(name, state, Event::InvalidFrame, b"", out, store),
+        FrameRead::Octets(n) => turn(
+            rt,
+            name,
+            state,
+            Event::Field,
+            part(&field, 0, n),
+            out,
+            store,
+        ),
+        _ => turn(rt, name, state, Event::InvalidFrame, b"", out, store),
     }
 }
 
 // A board hears what the other sent: a signal, or the field at the front of the other's output. A second field is sent only where a
 // CLR was heard, and here nobody sends one.
 fn answer(
+    rt: &impl Print,
     name: u8,
     state: State,
     sent: Stepped,
     from: &[u8],
     out: &mut [u8],
     store: &mut [u8],
-) -> Stepped {
+) -> io::Result<Stepped> {
     let signal = sent.signal;
     match signal {
-        Sends::Signal(heard) => turn(name, state, Event::Signal(heard), b"", out, store),
-        Sends::NoSignal => hear(name, state, part(from, 0, sent.first), out, store),
+        Sends::Signal(heard) => turn(rt, name, state, Event::Signal(heard), b"", out, store),
+        Sends::NoSignal => hear(rt, name, state, part(from, 0, sent.first), out, store),
     }
 }
 
-fn main() {
+fn main(rt: HostRuntime) -> io::Result<()> {
     let begin = station::begin(clock());
     let mut out_a = [0u8; 128];
     let mut out_b = [0u8; 128];
     let mut store_a = [0u8; 64];
     let mut store_b = [0u8; 64];
     let start = Event::Start(table::Start::CrD);
-    let asks = turn(b'A', begin, start, b"", &mut out_a, &mut store_a);
-    let lists = answer(b'B', begin, asks, &out_a, &mut out_b, &mut store_b);
-    let picks = answer(b'A', asks.state, lists, &out_b, &mut out_a, &mut store_a);
-    let judges = answer(b'B', lists.state, picks, &out_a, &mut out_b, &mut store_b);
-    answer(b'A', picks.state, judges, &out_b, &mut out_a, &mut store_a);
+    let asks = turn(&rt, b'A', begin, start, b"", &mut out_a, &mut store_a)?;
+    let lists = answer(&rt, b'B', begin, asks, &out_a, &mut out_b, &mut store_b)?;
+    let picks = answer(
+        &rt,
+        b'A',
+        asks.state,
+        lists,
+        &out_b,
+        &mut out_a,
+        &mut store_a,
+    )?;
+    let judges = answer(
+        &rt,
+        b'B',
+        lists.state,
+        picks,
+        &out_a,
+        &mut out_b,
+        &mut store_b,
+    )?;
+    answer(
+        &rt,
+        b'A',
+        picks.state,
+        judges,
+        &out_b,
+        &mut out_a,
+        &mut store_a,
+    )?;
+    Ok(())
 }

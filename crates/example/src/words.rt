@@ -1,17 +1,18 @@
 // What a board does, in words: a line for each thing, which begins with the board's name. What does not come up in the README's
 // transaction has no name of its own here.
-use libc::STDOUT_FILENO;
 use station::{Sends, Told};
+use std::io;
+use std::io::Write;
 use table::{Phase, Signal};
 
-fn print(text: &[u8]) {
-    io::write_all(STDOUT_FILENO, text);
+fn print(rt: &impl Print, text: &[u8]) -> io::Result<()> {
+    io::writer(rt).write_all(text)
 }
 
-fn print_line(name: u8, text: &[u8]) {
-    print(&[name]);
-    print(text);
-    print(b"\n");
+fn print_line(rt: &impl Print, name: u8, text: &[u8]) -> io::Result<()> {
+    print(rt, &[name])?;
+    print(rt, text)?;
+    print(rt, b"\n")
 }
 
 // The lowest hexadecimal digit of a number.
@@ -29,81 +30,80 @@ fn kind(field: &[u8]) -> u8 {
     if field.len() == 0 { 0 } else { field[0] % 16 }
 }
 
-fn print_octet(octet: u8) {
-    print(&[b' ', digit(octet / 16), digit(octet)]);
+fn print_octet(rt: &impl Print, octet: u8) -> io::Result<()> {
+    print(rt, &[b' ', digit(octet / 16), digit(octet)])
 }
 
-fn print_octets(run: &[u8]) {
+fn print_octets(rt: &impl Print, run: &[u8]) -> io::Result<()> {
     let mut i = 0;
     while i < run.len() {
-        print_octet(run[i]);
+        print_octet(rt, run[i])?;
         i += 1;
     }
+    Ok(())
 }
 
 // The line of octets that are sent or stored, if there are any.
-fn print_run(name: u8, text: &[u8], run: &[u8]) {
-    if run.len() != 0 {
-        print(&[name]);
-        print(text);
-        print_octets(run);
-        print(b"\n");
+fn print_run(rt: &impl Print, name: u8, text: &[u8], run: &[u8]) -> io::Result<()> {
+    if run.len() == 0 {
+        return Ok(());
     }
+    print(rt, &[name])?;
+    print(rt, text)?;
+    print_octets(rt, run)?;
+    print(rt, b"\n")
 }
 
-pub(crate) fn print_sent(name: u8, field: &[u8]) {
+pub(crate) fn print_sent(rt: &impl Print, name: u8, field: &[u8]) -> io::Result<()> {
     match kind(field) {
-        1 => print_run(name, b" sends MS", field),
-        2 => print_run(name, b" sends CL", field),
-        4 => print_run(name, b" sends ACK(1)", field),
-        _ => print_run(name, b" sends", field),
+        1 => print_run(rt, name, b" sends MS", field),
+        2 => print_run(rt, name, b" sends CL", field),
+        4 => print_run(rt, name, b" sends ACK(1)", field),
+        _ => print_run(rt, name, b" sends", field),
     }
 }
 
-pub(crate) fn print_stored(name: u8, stored: &[u8]) {
-    print_run(name, b" stores", stored);
+pub(crate) fn print_stored(rt: &impl Print, name: u8, stored: &[u8]) -> io::Result<()> {
+    print_run(rt, name, b" stores", stored)
 }
 
-pub(crate) fn print_refusal(name: u8, told: Told) {
+pub(crate) fn print_refusal(rt: &impl Print, name: u8, told: Told) -> io::Result<()> {
     match told {
-        Told::Done => {}
-        Told::TimedOut | Told::NothingToPropose => print_line(name, b" gives up"),
-        Told::UnknownType | Told::NotInTable => print_line(name, b" passes over it"),
-        _ => print_line(name, b" was called wrongly"),
+        Told::Done => Ok(()),
+        Told::TimedOut | Told::NothingToPropose => print_line(rt, name, b" gives up"),
+        Told::UnknownType | Told::NotInTable => print_line(rt, name, b" passes over it"),
+        _ => print_line(rt, name, b" was called wrongly"),
     }
 }
 
-pub(crate) fn print_signal(name: u8, sends: Sends) {
+pub(crate) fn print_signal(rt: &impl Print, name: u8, sends: Sends) -> io::Result<()> {
     match sends {
-        Sends::NoSignal => {}
+        Sends::NoSignal => Ok(()),
         Sends::Signal(signal) => match signal {
-            Signal::CrD => print_line(name, b" sends CR_d"),
-            _ => print_line(name, b" sends another signal"),
+            Signal::CrD => print_line(rt, name, b" sends CR_d"),
+            _ => print_line(rt, name, b" sends another signal"),
         },
     }
 }
 
-pub(crate) fn print_phase(name: u8, state: table::State) {
+pub(crate) fn print_phase(rt: &impl Print, name: u8, state: table::State) -> io::Result<()> {
     let phase = state.phase;
     match phase {
-        Phase::Initial(_) => print_line(name, b" is in Initial"),
-        Phase::ListsD(_) => print_line(name, b" is in Lists-d"),
-        Phase::Listed(_) => print_line(name, b" is in Listed"),
-        Phase::Proposed(_, wish, _) => print_mode(name, b" is in Proposed", wish),
-        Phase::Mode(_, wish, _) => print_mode(name, b" is in Mode", wish),
-        _ => print_line(name, b" is in another phase"),
+        Phase::Initial(_) => print_line(rt, name, b" is in Initial"),
+        Phase::ListsD(_) => print_line(rt, name, b" is in Lists-d"),
+        Phase::Listed(_) => print_line(rt, name, b" is in Listed"),
+        Phase::Proposed(_, wish, _) => print_mode(rt, name, b" is in Proposed", wish),
+        Phase::Mode(_, wish, _) => print_mode(rt, name, b" is in Mode", wish),
+        _ => print_line(rt, name, b" is in another phase"),
     }
 }
 
 // A phase with its mode: the board's wish, by its number, or what the other board proposed, which was stored.
-fn print_mode(name: u8, text: &[u8], wish: u8) {
-    print(&[name]);
-    print(text);
+fn print_mode(rt: &impl Print, name: u8, text: &[u8], wish: u8) -> io::Result<()> {
+    print(rt, &[name])?;
+    print(rt, text)?;
     if wish == 0 {
-        print(b", as stored\n");
-        return;
+        return print(rt, b", as stored\n");
     }
-    print(b", wish ");
-    io::print_decimal(STDOUT_FILENO, wish as u64);
-    print(b"\n");
+    println!(rt; ", wish {wish}")
 }

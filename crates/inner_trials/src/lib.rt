@@ -1,4 +1,6 @@
 // Operations 32 to 37 of the probe: what is reached only through other operations. For tests alone.
+#![tactic(auto)]
+
 mod choices;
 mod parts;
 

@@ -1,9 +1,12 @@
 // The probe: a program by which any other puts the operations to the test. Standard input is a row
 // of requests and standard output a row of replies, one for each request, in order. Both have the
 // form of a run (the crate `wire`). A request is the octet of its operation and the pieces that this takes.
+#![tactic(auto)]
+
 mod stations;
 
-use libc::{STDIN_FILENO, STDOUT_FILENO};
+use std::io;
+use std::io::{ErrorKind, Read, Write};
 use wire::{Reply, U8, U16};
 
 // The octets of the longest request.
@@ -33,35 +36,48 @@ fn answer(request: &[u8]) -> Reply {
     reply
 }
 
-// Writes a reply behind its length. False where the output takes no more.
-fn write_reply(reply: Reply) -> bool {
+// Writes a reply behind its length.
+fn write_reply(output: &mut impl Write, reply: Reply) -> io::Result<()> {
     let head = wire::put_number(wire::no_reply(), U16, reply.length as u64);
-    let head_octets = head.octets;
-    let octets = reply.octets;
-    io::write_all(STDOUT_FILENO, wire::first(&head_octets, head.length))
-        && io::write_all(STDOUT_FILENO, wire::first(&octets, reply.length))
+    output.write_all(wire::first(&head.octets, head.length))?;
+    output.write_all(wire::first(&reply.octets, reply.length))
 }
 
-// Reads a request and writes its reply. False where the input ends before the request does, or the
-// output takes no more.
-fn serve_one() -> bool {
+// Fills the octets from the input. False where the input ends before.
+fn fill(input: &mut impl Read, octets: &mut [u8]) -> io::Result<bool> {
+    match input.read_exact(octets) {
+        Ok(()) => Ok(true),
+        Err(error) => match error.kind() {
+            ErrorKind::UnexpectedEof => Ok(false),
+            _ => Err(error),
+        },
+    }
+}
+
+// Reads a request and writes its reply. False where the input ends before the request does.
+fn serve_one(input: &mut impl Read, output: &mut impl Write) -> io::Result<bool> {
     let mut head = [0u8; 2];
-    if io::read_full(STDIN_FILENO, &mut head) < 2 {
-        return false;
+    if !fill(input, &mut head)? {
+        return Ok(false);
     }
     let length = wire::read_number(&head, 0, U16).value as usize;
     let mut request = [0u8; REQUEST_LIMIT];
-    if io::read_full(STDIN_FILENO, wire::first_mut(&mut request, length)) < length {
-        return false;
+    if !fill(input, wire::first_mut(&mut request, length))? {
+        return Ok(false);
     }
-    write_reply(answer(wire::first(&request, length)))
+    write_reply(output, answer(wire::first(&request, length)))?;
+    Ok(true)
 }
 
-// Serves to the end of the input. A proved loop has to end, and nothing says that the input does:
-// so the turns are counted down, from a number that no input uses up.
-fn main() {
-    let mut turns = u64::MAX;
-    while turns > 0 && serve_one() {
-        turns -= 1;
+// Serves to the end of the input, or until the output takes no more, which is an error. A proved loop has to end, and nothing says that
+// the input does: so the turns are counted, to a number that no input uses up.
+fn main(rt: HostRuntime) -> io::Result<()> {
+    let mut input = rt.stdin();
+    let mut output = rt.stdout();
+    for _ in 0..u64::MAX {
+        if !serve_one(&mut input, &mut output)? {
+            break;
+        }
     }
+    Ok(())
 }

@@ -20,7 +20,7 @@ const OWN_AT: usize = 19;
 const WISHES_LIMIT: usize = 2048;
 
 // The pieces of a request from the own table on.
-#[derive(Drop)]
+#[derive(Clone, Copy)]
 struct Pieces {
     own: Run,
     wishes: Run,

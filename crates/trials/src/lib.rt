@@ -1,5 +1,7 @@
 // Operations 1 to 5 of the probe: each takes a request apart, calls an operation of the product and makes the reply of its answer. For
 // tests alone.
+#![tactic(auto)]
+
 mod frames;
 mod messages;
 

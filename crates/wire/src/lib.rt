@@ -5,6 +5,7 @@
 // request does not hold whole, or that is longer than its limit, ends at CUT, and so does every
 // piece behind it. So a request has its right length exactly if its last piece ends where it does.
 // Nothing here fails: past the end, reading gives 0 or no octets, and writing writes nothing.
+#![tactic(auto)]
 
 // Where a refused piece ends: no request is so long.
 const CUT: usize = 65536;
@@ -27,21 +28,21 @@ pub const RUN_LIMIT: usize = 255;
 // Room for the longest reply.
 pub const REPLY_LIMIT: usize = 4096;
 
-#[derive(Drop)]
+#[derive(Clone, Copy)]
 pub struct Number {
     pub value: u64,
     pub end: usize,
 }
 
 // The place of the octets of a run or buffer.
-#[derive(Drop)]
+#[derive(Clone, Copy)]
 pub struct Run {
     pub start: usize,
     pub end: usize,
 }
 
 // The number of a refusal, 0 for success, and a count of octets or bits, 0 with a refusal.
-#[derive(Drop)]
+#[derive(Clone, Copy)]
 pub struct Answer {
     pub no: u8,
     pub count: usize,
