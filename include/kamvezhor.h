@@ -19,7 +19,7 @@
  *
  *   function                 ROM  stack  red zone  lent
  *   kamvezhor_read_frame    1536    160         0    64
- *   kamvezhor_write_frame   1152     80         0    88
+ *   kamvezhor_write_frame   1152     96         0    88
  *   kamvezhor_read_message  2560    208         0  1792
  */
 #ifndef KAMVEZHOR_H

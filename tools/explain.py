@@ -1,7 +1,7 @@
 #!/usr/bin/env python3
 """Puts names beside the codes of a listing.
 
-    target/bin/listing < message | python3 tools/explain.py
+    crates/listing/out/listing < message | python3 tools/explain.py
 
 Each line of standard input is printed as it is. Under i= and s= stands a line for each code, with its name in docs/NAMES.md; under
 a refusal, what docs/LISTING.md says of it and what to ask for. Any input will do: what is no such line has nothing under it. The

@@ -13,9 +13,9 @@ from pathlib import Path
 TABLES = Path(__file__).resolve().parent.parent / "crates/names/specs/Tables.antt"
 DECLARED = re.compile(r"^abbrev pub table(\S+) : List Printed$", re.M)
 TABLE = re.compile(r"^table(\S+) =\n((?: .*\n)*)", re.M)
-ROW = re.compile(r"    (named|nonStandard|reserved) ∷  -- (\S.*)")
+ROW = re.compile(r"    (named|non_standard|reserved) ∷  -- (\S.*)")
 BLOCKS = r"^%s =\n((?: .*\n)*)"
-BLOCK = re.compile(r"    (?:∷ )?printedBlock \(codeOf ([12]) (\d+) (\d+) 0\) (table\S+|\((?:table\S+ \+\+ )+table\S+\))")
+BLOCK = re.compile(r"    (?:∷ )?printed_block \(code_of ([12]) (\d+) (\d+) 0\) (table\S+|\((?:table\S+ \+\+ )+table\S+\))")
 
 # The rows of a printed octet: bit 8 ends a block, and so does bit 7 below level 1.
 TOP_ROWS, LOW_ROWS = 7, 6
@@ -47,7 +47,7 @@ def name_of_row(table, line):
     row = ROW.fullmatch(line)
     hold(row, f"table{table}: '{line.strip()}' is no row 'ENTRY ∷  -- NAME'")
     entry, name = row.groups()
-    due = "reserved" if name == "Reserved" else "nonStandard" if name.startswith("Non-standard ") else "named"
+    due = "reserved" if name == "Reserved" else "non_standard" if name.startswith("Non-standard ") else "named"
     hold(entry == due, f"table{table}: '{name}' stands beside {entry}")
     hold("|" not in name and name == name.strip(), f"table{table}: '{name}' cannot stand in a cell")
     return None if entry == "reserved" else name
@@ -74,7 +74,7 @@ def read_blocks(text, kind):
     blocks = {}
     for line in lines:
         block = BLOCK.fullmatch(line)
-        hold(block, f"{kind}: '{line.strip()}' is no line 'printedBlock (codeOf F S T 0) TABLES'")
+        hold(block, f"{kind}: '{line.strip()}' is no line 'printed_block (code_of F S T 0) TABLES'")
         under = tuple(map(int, block.groups()[:3]))
         hold(under not in blocks, f"{kind} has two blocks under {under}")
         blocks[under] = re.findall(r"table([^\s)]+)", block[4])
@@ -94,20 +94,20 @@ def printed_in(blocks, tables, under):
 
 def read_codes(text):
     """From each code, as (f, s, t, n), to its path of names and its table."""
-    tables, npars, spars = read_tables(text), read_blocks(text, "nparBlocks"), read_blocks(text, "sparBlocks")
+    tables, npars, spars = read_tables(text), read_blocks(text, "npar_blocks"), read_blocks(text, "spar_blocks")
     used = {table for blocks in (npars, spars) for group in blocks.values() for table in group}
     hold(used >= set(tables), f"no block has {sorted(set(tables) - used)}")
     paths = {(f, 0, 0): [] for f in FIELDS}
     codes = {}
     for under in sorted(spars):
         f, s, t = under
-        hold(under in paths and t == 0, f"sparBlocks: {under} is no parameter that has a name and may have an SPar block")
+        hold(under in paths and t == 0, f"spar_blocks: {under} is no parameter that has a name and may have an SPar block")
         for position, name, table in printed_in(spars, tables, under):
             code = (f, s, position) if s else (f, position, 0)
             paths[code] = paths[under] + [name]
             codes[code + (0,)] = ", ".join(paths[code]), table
     for under in npars:
-        hold(under in paths, f"nparBlocks: {under} is no parameter that has a name")
+        hold(under in paths, f"npar_blocks: {under} is no parameter that has a name")
         for position, name, table in printed_in(npars, tables, under):
             codes[under + (position,)] = ", ".join(paths[under] + [name]), table
     return codes
@@ -117,7 +117,7 @@ def page(codes):
     lines = [HEAD]
     for f, field in FIELDS.items():
         lines += [f"## {field}", "", "| code | name | table |", "|---|---|---|"]
-        lines += [f"| {s}.{t}.{n} | {name} | {table} |" for (g, s, t, n), (name, table) in sorted(codes.items()) if g == f]
+        lines += [f"| {s}.{t}.{n} | {name} | {table.replace('_', '-')} |" for (g, s, t, n), (name, table) in sorted(codes.items()) if g == f]
         lines.append("")
     return "\n".join(lines[:-1]) + "\n"
 

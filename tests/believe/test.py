@@ -14,22 +14,21 @@ NAMES = ("DemandTwo", "DemandThree", "SameOctets", "PositionsProved")
 
 DEMAND = """-- To be believed: {0}, of the test.
 -- Assumes nothing.
-use mathlib.Core.Path.{{_≡_}}
-use Rattle·low.specs.Words.{{word}}
+use Rattle.std.specs.Prelude.{{◌≡◌}}
+use Rattle.low.specs.Words.{{word}}
 
 pub record {0} : Type 0 where
   pub one : word 1 ≡ word 1
 """
 
 TREE = {
-    "crates.txt": "# Bottom up.\nlow:\nhigh: low\nmeasure: low\ntool: low\ndemands: high low\n",
+    "crates.txt": "# Bottom up: all.\nlow:\nhigh: low\nhigh_c staticlib: high\nmeasure staticlib: low\ntool: low\ndemands: high low\n",
     "docs/RULES.md": "# Rules\n\n1. A word ([`word`](../crates/low/specs/Words.antt)), and a type ([`Sign`](../crates/low/src/lib.rt)).\n",
     "docs/BELIEVED.md": "# Believed\n\n<!-- list -->\n<!-- end of list -->\n\nThe end.\n",
     "crates/low/src/lib.rt": """// A comment with pub fn in it.
-ghost use mathlib.Core.Path.{_≡_};
-ghost use mathlib.Core.List.{[]};
-ghost use Rattle·low·specs.specs.Words.{Tells, word};
-ghost use Rattle·low·specs.specs.Inside.{Step};
+ghost use Rattle.std.specs.Prelude.{◌≡◌, []};
+ghost use Rattle.low.specs.Words.{Tells, word};
+ghost use Rattle.low.specs.Inside.{Step};
 
 pub enum Sign {
     Plus(Size),
@@ -41,15 +40,15 @@ pub struct Size {
 }
 
 fn step(x: usize) -> usize
-    requires { ⌜ x ≡ 1 ⌝ }
-    ensures { λ r. ⌜ Step x r ⌝ }
+    requires { x ≡ 1 }
+    ensures { Step x result }
 {
     x
 }
 
 // pub fn in a comment
 pub fn tell<'a>(run: &'a [u8], word: usize, out: &mut [u8]) -> Sign
-    ensures { λ r. ⌜ Tells (now (run .entry)) word r [] (now (out .exit)) ⌝ }
+    ensures { Tells run.now word result [] out.new }
 {
     if 0 < word {
         return Sign::Minus;
@@ -61,11 +60,9 @@ pub fn tell<'a>(run: &'a [u8], word: usize, out: &mut [u8]) -> Sign
     "crates/low/specs/Words.antt": """-- To be believed: what the words of the test
 -- are. There is more to say.
 -- Assumes nothing.
-use Prim.Native.Nat.{ℕ, suc, _+_}
-use mathlib.Core.List.{List, [], _∷_}
-use mathlib.Core.Path.{_≡_}
-use Rattle·low·specs.specs.declared.Sign.{Sign}
-use Rattle·low·specs.specs.declared.Sign.the-variants.{
+use Rattle.std.specs.Prelude.{ℕ, suc, ◌+◌, List, [], ◌∷◌, ◌≡◌}
+use Rattle.low.specs.declared.Sign.{Sign}
+use Rattle.low.specs.declared.Sign.TheVariants.{
   Plus,
   Minus,
 }
@@ -83,7 +80,7 @@ size (long n) = n + 1
 unfoldable pub word : ℕ → ℕ
 word x = size (long x)
 
-abbrev pub _⊕_ : ℕ → ℕ → ℕ
+abbrev pub ◌⊕◌ : ℕ → ℕ → ℕ
 a ⊕ suc b = a + b
 
 abbrev pub signed : Sign → ℕ
@@ -100,51 +97,61 @@ pub record Tells (run : List ℕ) (at : ℕ) (
 """,
     "crates/low/specs/Inside.antt": """-- Inner: what the code of the test rests on.
 -- Assumes nothing.
-use Prim.Native.Nat.{ℕ}
-use mathlib.Core.Path.{_≡_}
+use Rattle.std.specs.Prelude.{ℕ, ◌≡◌}
 
 pub Step : ℕ → ℕ → Type 0
 Step x r = x ≡ r
 """,
-    "crates/high/src/lib.rt": """ghost use Rattle·high·specs.specs.High as high;
+    "crates/high/src/lib.rt": """ghost use Rattle.high.specs.High as high;
 use low::Sign;
 
-#[no_mangle]
-pub extern "C" fn high_tell(
+pub fn high_tell(
     sign: Sign,
 ) -> usize
-    ensures { λ r. ⌜ high.Signs sign r ⌝ }
+    ensures { high.Signs sign result }
 {
     0
 }
 """,
     "crates/high/specs/High.antt": """-- To be believed: what is told above.
 -- Assumes nothing.
-use Prim.Native.Nat.{ℕ}
-use mathlib.Core.Path.{_≡_}
-use Rattle·low.specs.Words as words
-use Rattle·low.specs.declared.Sign.{Sign}
+use Rattle.std.specs.Prelude.{ℕ, ◌≡◌}
+use Rattle.low.specs.Words as words
+use Rattle.low.specs.declared.Sign.{Sign}
 
 module _ (s : Sign) where
   abbrev pub Signs : ℕ → Type 0
   Signs n = words.signed s ≡ n
+""",
+    "crates/high_c/src/lib.rt": """ghost use Rattle.high.specs.High as high;
+ghost use Rattle.std.specs.Prelude.{◌≡◌};
+use low::{Sign, tell};
+
+#[unsafe(no_mangle)]
+pub extern "C" fn high_tell(
+    sign: Sign,
+) -> usize
+    ensures { high.Signs sign result }
+{
+    high::high_tell(sign)
+}
 """,
     "crates/measure/src/lib.rt": "pub fn measured(x: usize) -> usize {\n    x\n}\n",
     "crates/tool/src/main.rt": "pub fn printed(x: usize) {\n}\n",
     "crates/demands/src/lib.rt": "// There is no operation here.\n",
     "crates/demands/specs/DemandOne.antt": """-- To be believed: demand 1.
 -- Assumes nothing.
-use Rattle·low.specs.Words.{Tells}
-use Rattle·high.specs.High.{Signs}
+use Rattle.low.specs.Words.{Tells}
+use Rattle.high.specs.High.{Signs}
 
 abbrev pub OneReply : {A : Type 0} → (A → Type 0) → Type 0
 OneReply {A} Fits = (r : A) → Fits r → Fits r
 
 pub record DemandOne : Type 1 where
   pub tell : OneReply Tells
-  pub high-tell : OneReply Signs
+  pub high_tell : OneReply Signs
 """,
-    "crates/demands/proofs/Demands.antt": "".join(f"pub the-{name} : {name}\nthe-{name} = given\n\n" for name in (*NAMES, "DemandOne")),
+    "crates/demands/proofs/Demands.antt": "".join(f"pub the_{name} : {name}\nthe_{name} = given\n\n" for name in (*NAMES, "DemandOne")),
     **{f"crates/demands/specs/{name}.antt": DEMAND.format(name) for name in NAMES},
 }
 
@@ -166,9 +173,10 @@ LISTED = """### The demands
 - [high/specs/High.antt](../crates/high/specs/High.antt): what is told above.
 """
 
-LOW, HIGH = "crates/low/src/lib.rt", "crates/high/src/lib.rt"
+LOW, HIGH, HIGH_C = "crates/low/src/lib.rt", "crates/high/src/lib.rt", "crates/high_c/src/lib.rt"
 WORDS, INSIDE, ONE = "crates/low/specs/Words.antt", "crates/low/specs/Inside.antt", "crates/demands/specs/DemandOne.antt"
 FORM = "does not ensure one contract by its name, and that without a requires"
+EXPORT = f"{HIGH_C}: high_tell does not ensure what the function of its name in high ensures"
 
 
 class Walk(unittest.TestCase):
@@ -213,15 +221,15 @@ class Walk(unittest.TestCase):
     def test_reached(self):
         said = self.walk("--reached")[0].splitlines()
         self.assertEqual([line for line in said if line.startswith("crates/low")],
-                         [f"{WORDS}: {name}" for name in ("Kind", "Tells", "_⊕_", "signed", "size", "word")] + [f"{LOW}: {name}" for name in ("Sign", "Size")])
+                         [f"{WORDS}: {name}" for name in ("Kind", "Tells", "signed", "size", "word", "◌⊕◌")] + [f"{LOW}: {name}" for name in ("Sign", "Size")])
 
     # 1. Nothing that is reached stands in proofs/.
 
     def test_definition_in_proofs(self):
         self.edit(WORDS, "abbrev pub size : Kind → ℕ\nsize short = 0\nsize (long n) = n + 1\n", "")
-        self.edit(WORDS, "use mathlib.Core.Path", "use Rattle·low.proofs.Sizes as sizes\nuse mathlib.Core.Path")
+        self.edit(WORDS, "use Rattle.std", "use Rattle.low.proofs.Sizes as sizes\nuse Rattle.std")
         self.edit(WORDS, "word x = size (long x)", "word x = sizes.size (long x)")
-        self.put("crates/low/proofs/Sizes.antt", "use Rattle·low.specs.Words.{Kind, short, long}\n\nabbrev pub size : Kind → Kind\nsize short = short\nsize (long n) = long n\n")
+        self.put("crates/low/proofs/Sizes.antt", "use Rattle.low.specs.Words.{Kind, short, long}\n\nabbrev pub size : Kind → Kind\nsize short = short\nsize (long n) = long n\n")
         self.breaches("crates/low/proofs/Sizes.antt: size stands in proofs/, reached from word")
 
     def test_demand_in_proofs(self):
@@ -238,10 +246,10 @@ class Walk(unittest.TestCase):
                       "crates/demands/proofs/DemandFour.antt: DemandFour stands in proofs/, reached from the demands")
 
     def test_demand_not_proved(self):
-        for instead in ("pub the-PositionsProved : DemandTwo → PositionsProved", "module _ (c : PositionsProved) where\n  pub the-PositionsProved : PositionsProved\n"):
+        for instead in ("pub the_PositionsProved : DemandTwo → PositionsProved", "module _ (c : PositionsProved) where\n  pub the_PositionsProved : PositionsProved\n"):
             with self.subTest(instead):
                 self.setUp()
-                self.edit("crates/demands/proofs/Demands.antt", "pub the-PositionsProved : PositionsProved\nthe-PositionsProved = given", instead)
+                self.edit("crates/demands/proofs/Demands.antt", "pub the_PositionsProved : PositionsProved\nthe_PositionsProved = given", instead)
                 self.breaches("crates/demands/specs/PositionsProved.antt: PositionsProved has no proof in crates/demands/proofs")
 
     # 2. Each file of specs/ is marked.
@@ -262,7 +270,7 @@ class Walk(unittest.TestCase):
 
     def test_bound_names_cite_nothing(self):
         for binder in ("reply : (spare : ℕ) → signed r ≡ spare", "reply : (λ spare. spare) (signed r) ≡ word at", "spare : signed r ≡ word at",
-                       "reply : (let spare = r in signed spare) ≡ at .spare", "reply : record { spare = r } ≡ word at"):
+                       "reply : (let spare = r in signed spare) ≡ at.spare", "reply : record { spare = r } ≡ word at"):
             with self.subTest(binder):
                 self.setUp()
                 self.edit(WORDS, "reply : signed r ≡ word at", binder)
@@ -281,13 +289,13 @@ class Walk(unittest.TestCase):
                 self.assertEqual(self.walk(), ("", 0))
 
     def test_inner_reached(self):
-        self.edit(WORDS, "use mathlib.Core.Path", "use Rattle·low·specs.specs.Inside.{Step}\nuse mathlib.Core.Path")
+        self.edit(WORDS, "use Rattle.std", "use Rattle.low.specs.Inside.{Step}\nuse Rattle.std")
         self.edit(WORDS, "signed r ≡ word at", "Step (signed r) (word at)")
         self.breaches(f"{INSIDE}: Step is reached from Tells, and its file is marked inner")
 
     def test_inner_cited_by_patterns(self):
         self.edit(INSIDE, "pub Step", "pub data Way : Type 0 where\n  left : Way\n\npub Step")
-        self.edit(WORDS, "use mathlib.Core.Path", "use Rattle·low·specs.specs.Inside.{left}\nuse mathlib.Core.Path")
+        self.edit(WORDS, "use Rattle.std", "use Rattle.low.specs.Inside.{left}\nuse Rattle.std")
         self.edit(WORDS, "size short = 0", "size left = 0\nsize short = 0")
         self.breaches(f"{INSIDE}: Way is reached from size, and its file is marked inner")
 
@@ -305,34 +313,51 @@ class Walk(unittest.TestCase):
 
     def test_name_not_in_module(self):
         self.edit(HIGH, "high.Signs sign", "high.Sings sign")
-        self.breaches(f"{HIGH}: Rattle·high·specs.specs.High has no Sings", f"{HIGH}: high_tell {FORM}")
+        self.breaches(f"{HIGH}: Rattle.high.specs.High has no Sings", f"{HIGH}: high_tell {FORM}", EXPORT)
 
     # 4. Each public function ensures one contract by its name.
 
     def test_contract_is_an_equation(self):
-        for ensured in ("r ≡ word at", "(r ≡ word) × (Tells run word r [] run)", "Tells (now (run .entry)) word r [] (now (out .exit)) × Tells",
-                        "¬ Tells (now (run .entry)) word r [] (now (out .exit))", "(Tells (now (run .entry)) word r [] (now (out .exit)))", "word"):
+        for ensured in ("result ≡ word at", "(result ≡ word) × (Tells run word result [] run)", "Tells run.now word result [] out.new × Tells",
+                        "¬ Tells run.now word result [] out.new", "(Tells run.now word result [] out.new)", "word"):
             with self.subTest(ensured):
                 self.setUp()
-                self.edit(LOW, "Tells (now (run .entry)) word r [] (now (out .exit))", ensured)
+                self.edit(LOW, "Tells run.now word result [] out.new", ensured)
                 self.assertIn(f"{LOW}: tell {FORM}\n", self.walk()[0])
 
     def test_no_contract(self):
-        self.edit(LOW, "    ensures { λ r. ⌜ Tells (now (run .entry)) word r [] (now (out .exit)) ⌝ }\n{", "{")
+        self.edit(LOW, "    ensures { Tells run.now word result [] out.new }\n{", "{")
         self.breaches(f"{LOW}: tell {FORM}")
 
     def test_requires(self):
-        self.edit(LOW, "-> Sign\n", "-> Sign\n    requires { ⌜ word ≡ 1 ⌝ }\n")
+        self.edit(LOW, "-> Sign\n", "-> Sign\n    requires { word ≡ 1 }\n")
         self.breaches(f"{LOW}: tell {FORM}")
 
     def test_contract_of_another_crate(self):
-        self.edit(HIGH, "high.Signs sign r", "words.Tells sign r")
-        self.edit(HIGH, "use low::Sign;", "ghost use Rattle·low.specs.Words as words;\nuse low::Sign;")
-        self.breaches(f"{HIGH}: high_tell: its contract Tells does not stand in crates/high/specs")
+        self.edit(HIGH, "high.Signs sign result", "words.Tells sign result")
+        self.edit(HIGH, "use low::Sign;", "ghost use Rattle.low.specs.Words as words;\nuse low::Sign;")
+        self.breaches(f"{HIGH}: high_tell: its contract Tells does not stand in crates/high/specs", EXPORT)
 
     def test_contract_not_in_demand_one(self):
-        self.edit(ONE, "  pub high-tell : OneReply Signs\n", "")
+        self.edit(ONE, "  pub high_tell : OneReply Signs\n", "")
         self.breaches(f"{HIGH}: high_tell: its contract Signs is not cited in DemandOne")
+
+    def test_export(self):
+        for old, new in (("high.Signs sign", "high.Signs size"), ("fn high_tell", "fn high_tells"), ("sign: Sign", "sign: Sign,\n    size: usize"),
+                         ("ensures { high.Signs sign result }", "requires { sign ≡ sign }\n    ensures { high.Signs sign result }")):
+            with self.subTest(new):
+                self.setUp()
+                self.edit(HIGH_C, old, new)
+                said = self.walk()[0].splitlines()
+                self.assertTrue(any(line.startswith(f"{HIGH_C}: high_tell") and "does not ensure" in line for line in said), said)
+
+    def test_export_of_no_contract(self):
+        self.edit(HIGH_C, "    ensures { high.Signs sign result }\n", "")
+        self.breaches(f"{HIGH_C}: high_tell {FORM}")
+
+    def test_export_promises_otherwise(self):
+        self.edit(HIGH_C, "fn high_tell", "fn high_told")
+        self.breaches(f"{HIGH_C}: high_told does not ensure what the function of its name in high ensures")
 
     # 5. docs/BELIEVED.md lists what is reached.
 

@@ -7,7 +7,9 @@
 
 It holds that (1) what is reached stands in specs/, or is a type declared in src/; (2) each file of specs/ says on its first line whether
 it is to be believed or inner; (3) in a file to be believed every definition is reached, in an inner one none; (4) each public function
-ensures one contract, by its name, which stands in its crate's specs/ and is cited in DemandOne; (5) docs/BELIEVED.md lists what is reached; (6) each definition to which docs/RULES.md leads stands where it says.
+ensures one contract, by its name, which stands in its crate's specs/ and is cited in DemandOne, and one of a static library has the
+clauses of the function of its name that it exports; (5) docs/BELIEVED.md lists what is reached; (6) each definition to which docs/RULES.md
+leads stands where it says.
 """
 import difflib
 import re
@@ -19,13 +21,15 @@ from textwrap import dedent
 DEMANDS = ["DemandOne", "DemandTwo", "DemandThree", "SameOctets", "PositionsProved"]
 # For bench/ and for the probe alone: their functions pass on to those of the other crates, and promise nothing.
 WITHOUT_CONTRACTS = ["measure", "wire", "trials", "inner_trials"]
-# The words of the language itself.
-LANGUAGE = set(": = → × ⊥ _ ⌜ ⌝ now record let in Type Unit".split())
+# The words of the language itself, and the kit's libraries, where the walk ends.
+LANGUAGE = set(": = → × ⊥ _ result record let in Type Unit".split())
+OF_KIT = ["std"]
 
 BELIEVED, INNER = "-- To be believed: ", "-- Inner: "
 BEGIN, END = "<!-- list -->", "<!-- end of list -->"
 TOKEN = re.compile(r"[(){};,]|[^\s(){};,]+")
-BLOCK = r"\s+(requires|ensures) \{((?:[^{}]|\{[^{}]*\})*)\}"
+BLOCK = r"\s+(requires|ensures)\*?(?: \w+)? \{((?:[^{}]|\{[^{}]*\})*)\}"
+CRATE = re.compile(r"^(\w+)( staticlib)?[^:\n]*:(.*)", re.M)
 
 
 def items(text):
@@ -34,8 +38,13 @@ def items(text):
 
 
 def spellings(name):
-    """An operator _≡_ is written ≡ between its arguments."""
-    return {name, *filter(None, name.split("_"))}
+    """An operator ◌≡◌ is written ≡ between its arguments."""
+    return {name, *filter(None, name.split("◌"))}
+
+
+def head_of(token):
+    """The name that a token begins with: of a field, as r.count, what it is a field of."""
+    return token.strip("«»").split(".")[0] if token[0] != "." else token
 
 
 def outside(tokens):
@@ -72,7 +81,7 @@ def scan(tokens, bound):
                 lambdas.pop()
         elif token == "let":
             scopes[-1].add(tokens[i])
-        elif token[0] != "." and tokens[i:i + 1] != ["="] and not any(token in scope for scope in scopes):
+        elif token[0] != "." and tokens[i:i + 1] != ["="] and not any(head_of(token) in scope for scope in scopes):
             names.append(token)
     return names
 
@@ -108,7 +117,7 @@ class Definition:
         found = {name: self.file.find(name) for name in self.names()}
         known = LANGUAGE | set(self.file.imports) | set(self.file.modules)
         for name in found if self.file.part == "specs" or self in self.file.functions else ():
-            if not found[name] and name.split(".")[0] not in known and not name[0].isdigit():
+            if not found[name] and head_of(name) not in known and not name[0].isdigit():
                 self.file.tree.breach(f"{self} cites {name}, which is not to be found")
         return list(dict.fromkeys(filter(None, found.values())))
 
@@ -166,8 +175,10 @@ class File:
     def read_rt(self, text):
         for words in re.findall(r"^ghost (use [^;]*);", text, re.M):
             self.use(words)
-        for crate, name in re.findall(r"^use (\w+)::([A-Z]\w*);", text, re.M):
-            self.imports[name] = (f"Rattle·{crate}.specs.declared.{name}", name)
+        for crate, listed in re.findall(r"^use (\w+)::(\w+|\{[^{}]*\});", text, re.M):
+            crate = self.crate if crate in ("crate", "self", "super") else crate
+            for name in re.findall(r"\b[A-Z]\w*", listed):
+                self.imports[name] = (f"Rattle.{crate}.specs.declared.{name}", name)
         for name, body in re.findall(r"^(?:pub )?(?:enum|struct) (\w+)([^}]*)", text, re.M):
             self.define(name, [("declared", re.findall(r"\w+", body))])
         for match in re.finditer(rf'^\s*pub (?:extern "C" )?fn (\w+)([^{{]*?)((?:{BLOCK})*)\s*\{{', text, re.M):
@@ -195,6 +206,9 @@ class File:
 class Tree:
     def __init__(self, root):
         self.root, self.files, self.breaches, self.reached = root, {}, {}, {}
+        self.crates = CRATE.findall((root / "crates.txt").read_text())
+        # A static library only exports what the crates below it have.
+        self.exports = {crate: uses.split() for crate, kind, uses in self.crates if kind}
 
     def breach(self, line):
         self.breaches[line] = True
@@ -208,8 +222,8 @@ class Tree:
 
     def member(self, user, module, name):
         """A name of a module. None if it is of the kit's library, where the walk ends."""
-        match = re.fullmatch(r"Rattle·(\w+?)(?:·specs|·proofs)?\.(specs|proofs)\.(declared\.)?([^.]+).*", module)
-        if not match:
+        match = re.fullmatch(r"Rattle\.(\w+)\.(specs|proofs)\.(declared\.(?:[a-z]\w*\.)*)?([^.]+).*", module)
+        if not match or match[1] in OF_KIT:
             return None
         crate, part, declared, file = match.groups()
         name = file if declared else name.split(".")[0]
@@ -232,15 +246,22 @@ class Tree:
 
 
 def check_contract(function, unique):
-    """A public function has one ensures and no requires: λ r. ⌜ NAME .. ⌝, where no operator stands outside of parentheses."""
+    """A public function has one ensures and no requires: NAME .., where no operator stands outside of parentheses."""
     breach, file = function.file.tree.breach, function.file
     blocks = [piece for piece in function.pieces if piece[0] != "field"]
     tokens = blocks[0][1] if [kind for kind, _ in blocks] == ["ensures"] else []
     flat = [tokens[i] for i in outside(tokens)]
-    applied = len(flat) > 4 and flat[0] + flat[2] + flat[-1] == "λ⌜⌝" and tokens[3] == flat[3]
-    contract = file.find(flat[3]) if applied and all(re.match(r"[\w.«]|\[\]$", token) for token in flat[3:-1]) else None
+    applied = flat and tokens[0] == flat[0] and all(re.match(r"[\w.«]|\[\]$", token) for token in flat)
+    contract = file.find(flat[0]) if applied else None
     if contract not in function.cited():
-        return breach(f"{function} does not ensure one contract by its name, and that without a requires")
+        breach(f"{function} does not ensure one contract by its name, and that without a requires")
+        return
+    below = file.tree.exports.get(file.crate)
+    if below is not None:
+        others = [other for crate in below for of in file.tree.glob(f"crates/{crate}/src/*.rt") for other in of.functions]
+        if not any(other.name == function.name and other.pieces == function.pieces and contract in other.cited() for other in others):
+            breach(f"{function} does not ensure what the function of its name in {' or '.join(below)} ensures")
+        return
     if (contract.file.crate, contract.file.part) != (file.crate, "specs"):
         breach(f"{function}: its contract {contract.name} does not stand in crates/{file.crate}/specs")
     if contract not in unique:
@@ -268,7 +289,7 @@ def listed(tree, records):
 
     first = list(dict.fromkeys(record.file for record in records))
     lines = ["### The demands", "", *map(line, first)]
-    for crate in re.findall(r"^(\w+):", (tree.root / "crates.txt").read_text(), re.M):
+    for crate, _, _ in tree.crates:
         order = re.findall(r"^pub mod (\S+)", "".join(file.text for file in tree.glob(f"crates/{crate}/specs/Lib.antt")), re.M)
         files = {definition.file for definition in tree.reached if definition.file.crate == crate} - set(first)
         ordered = sorted(files, key=lambda file: ((order + [Path(file.path).stem]).index(Path(file.path).stem), file.path))

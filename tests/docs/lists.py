@@ -19,7 +19,7 @@ def crates_of(root):
     """Each crate of crates.txt, in its order, with what it uses."""
     lines = (root / "crates.txt").read_text().splitlines()
     parts = [line.split(":") for line in lines if line and not line.startswith("#")]
-    return {name.strip(): uses.split() for name, uses in parts}
+    return {head.split()[0]: uses.split() for head, uses in parts}
 
 
 def code_of(root, crate):
@@ -88,7 +88,7 @@ def lines_in(paths):
 
 def sizes_of(root, crate):
     home = root / "crates" / crate
-    functions = list(home.glob("proofs/**/Proof.antt"))
+    functions = list(home.glob("proofs/*/**/*.antt"))
     laws = [path for path in home.glob("proofs/*.antt")]
     return [lines_in(home.glob("src/**/*.rt")), lines_in(home.glob("specs/**/*.antt")), lines_in(laws), lines_in(functions),
             len(list(home.glob("must-fail/*.edit")))]

@@ -7,7 +7,7 @@ It holds that (1) a link of a document leads to a file, and to a heading of it; 
 must-fail edit; (3) `crate::name` is declared in that crate's src/, and `Record.line` is a line of that record; (4) every word between
 backticks is a word of the code, or of a file's name; (5) "RULES, Frames 3" is a rule; (6) a family of requests that a document quotes,
 as "wishes: not minimal", is one of tests/independent. Of a path of what is built only the words are looked up, of an error quoted with
-gaps (..) nothing.
+gaps (..) nothing. docs/PORT.md sets names that were beside those that are: of it only the links are looked up.
 """
 import fnmatch
 import re
@@ -17,6 +17,7 @@ from pathlib import Path
 SLASHES = r"//.*|/\*[\s\S]*?\*/"
 COMMENTS = {".rt": SLASHES, ".rs": SLASHES, ".c": SLASHES, ".h": SLASHES, ".antt": r"(?<!\S)--(?!\S).*"}
 HASH = r"(?<!\S)#(?!\S).*"
+WAS = Path("docs/PORT.md")
 SEPARATORS = r"[\s(){}\[\];,:.\"'`|&<>=*!/+#@%?\\^~$]+"
 
 
@@ -28,7 +29,7 @@ class Tree:
     def __init__(self, root):
         self.root, self.breaches = root, []
         inside = [path.relative_to(root) for path in sorted(root.rglob("*"))]
-        self.paths = [path for path in inside if not {"target", ".git", "__pycache__"} & set(path.parts)]
+        self.paths = [path for path in inside if not {"target", "out", ".git", "__pycache__"} & set(path.parts)]
         self.ends = {"/".join(path.parts[i:]) for path in self.paths for i in range(len(path.parts))}
         self.code, self.comments, self.documents, self.files, self.faults = set(), {}, {}, {}, {}
         for path in self.paths:
@@ -82,7 +83,7 @@ class Tree:
         """What is wrong with a span between backticks, if anything is."""
         if ".." in span:
             return None
-        if re.fullmatch(r"[\w.*-]+(/[\w.*-]+)+/?|[\w-]+\.(antt|rt|rs|md|py|awk|txt)", span) and "target/" not in span:
+        if re.fullmatch(r"[\w.*-]+(/[\w.*-]+)+/?|[\w-]+\.(antt|rt|rs|md|py|awk|txt)", span) and not re.search(r"target/|/out/", span):
             return None if self.is_path(span) else "is no path"
         inside = re.fullmatch(r"(\w+)::(?:\w+::)*(\w+)", span)
         if inside and f"crates/{inside[1]}" in self.ends and not self.is_declared(*inside.groups()):
@@ -95,7 +96,7 @@ class Tree:
 
     def is_word(self, word):
         """A word of the code, a number, or the end of words."""
-        if word.startswith("-") and word not in self.code:
+        if word[:1] in ("-", "_") and word not in self.code:
             return any(known.endswith(word) for known in self.code)
         return word in self.code or not word or re.fullmatch(r"[0-9A-F]+", word)
 
@@ -137,11 +138,13 @@ class Tree:
         lines = [(path, *line) for path, all_lines in documents.items() for line in all_lines]
         comments = [(path, *comment) for path, all_comments in self.comments.items() for comment in all_comments]
         for place in lines + comments:
-            self.spans(*place)
-            self.citations(*place)
+            if place[0] != WAS:
+                self.spans(*place)
+                self.citations(*place)
         for place in lines:
             self.links(*place)
-            self.families(*place)
+            if place[0] != WAS:
+                self.families(*place)
         return self.breaches
 
 

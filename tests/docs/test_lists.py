@@ -9,13 +9,14 @@ sys.dont_write_bytecode = True
 import lists
 
 TREE = {
-    "crates.txt": "# Bottom up.\nlow:\nhigh: low io\nmeasure: high\nexample: high io\n",
+    "crates.txt": "# Bottom up.\nlow:\nhigh: low io\nmeasure staticlib: high\nexample: high io\n",
     "crates/low/src/lib.rt": "// high::up is no call of it.\npub fn tell(run: &[u8]) -> u8 {\n    0\n}\n\nfn inner() {\n}\n",
     "crates/low/specs/Words.antt": "-- To be believed.\n\nword = 1\n",
     "crates/low/must-fail/other.edit": "# Another.\n",
-    "crates/high/src/lib.rt": "ghost use Rattle·measure.{x};\nuse low::tell;\n\npub extern \"C\" fn up() {\n    tell(b\"\");\n}\n",
+    "crates/high/src/lib.rt": "ghost use Rattle.measure.{x};\nuse low::tell;\n\npub extern \"C\" fn up() {\n    tell(b\"\");\n}\n",
     "crates/high/proofs/Laws.antt": "law = 1\n",
-    "crates/high/proofs/inside/up/Proof.antt": "proof\n\nof up\n",
+    "crates/high/proofs/inside/up/Answers.antt": "answer\n\n",
+    "crates/high/proofs/down/Invariants.antt": "invariant\n",
     "crates/measure/src/lib.rt": "pub fn measured() {\n    high::up();\n}\n",
     "crates/example/src/main.rt": "fn main() {\n    high::up();\n}\n",
     "crates/example/stdout": "up\ndown\n",

@@ -10,15 +10,17 @@ sys.dont_write_bytecode = True
 import names
 
 TREE = {
-    "README.md": "# Small\n\nSee [rules](docs/RULES.md#frames), `low::count_ones`, `low/src`, `proofs/*.antt` and `target/bin/low`.\n",
+    "README.md": "# Small\n\nSee [rules](docs/RULES.md#frames), `low::count_ones`, `low/src`, `proofs/*.antt`, `crates/low/out/run` and `target/low`.\n",
     "docs/RULES.md": "# Rules\n\n## Frames\n\n1. One.\n2. Two.\n\n## Own table, wishes\n\n1. One ([here](../README.md)).\n",
-    "docs/NOTES.md": "`low/one_more` is refused; `Cells.start` and those in `-elsewhere`; \"wishes: not minimal\"; RULES, Frames 2.\n",
+    "docs/NOTES.md": "`low/one_more` is refused; `Cells.start` and those in `_elsewhere`; \"wishes: not minimal\"; RULES, Frames 2.\n",
     "crates/low/src/lib.rt": "// `count_ones` counts (RULES, Own table, wishes 1).\npub fn count_ones(run: &[u8]) -> usize {\n    0\n}\n",
-    "crates/low/specs/Cells.antt": "-- Of `Cells`.\npub record Cells : Type 0 where\n  pub start : Unit\n  pub reset-elsewhere : Unit\n",
+    "crates/low/specs/Cells.antt": "-- Of `Cells`.\npub record Cells : Type 0 where\n  pub start : Unit\n  pub reset_elsewhere : Unit\n",
     "crates/low/proofs/Laws.antt": "-- A law of `Cells.start`.\nlaw : Unit\n",
     "crates/low/must-fail/one_more.edit": "# One more.\n",
     "tests/independent/src/lib.rs": 'const FAMILY: &str = "wishes: not minimal";\n',
-    "bench/run": "# `low` is built.\ncc target/bin/low\n",
+    "bench/run": "# `low` is built.\ncc target/low crates/low/out/run\n",
+    "docs/PORT.md": "`count_bits` was `count_ones`'s name, `specs/Tables.antt` was [rules](RULES.md#frames)'s.\n",
+    "crates/low/out/made.antt": "-- `Made` by a check.\nmade : Unit\n",
 }
 
 
@@ -54,6 +56,10 @@ class Names(unittest.TestCase):
         self.refused("README.md", "proofs/*.antt", "proofs/*.rt", "is no path")
         self.refused("docs/NOTES.md", "low/one_more", "low/one_less", "`low/one_less` is no path")
 
+    def test_a_page_of_names_that_were(self):
+        self.refused("docs/PORT.md", "#frames", "#flags", "leads nowhere")
+        self.refused("docs/NOTES.md", "Frames 2.", "Frames 2, `made`.", "made")
+
     def test_what_a_crate_declares(self):
         self.refused("README.md", "low::count_ones", "low::run", "is not in low")
         self.refused("docs/NOTES.md", "Cells.start", "Cells.law", "is no line of Cells")
@@ -63,7 +69,7 @@ class Names(unittest.TestCase):
         self.refused("crates/low/src/lib.rt", "`count_ones`", "`count_bits`", "count_bits")
         self.refused("crates/low/specs/Cells.antt", "`Cells`", "`Rows`", "Rows")
         self.refused("bench/run", "`low`", "`high`", "high")
-        self.refused("docs/NOTES.md", "-elsewhere", "-nowhere", "-nowhere")
+        self.refused("docs/NOTES.md", "_elsewhere", "_nowhere", "_nowhere")
 
     def test_a_comment_is_no_code(self):
         self.refused("crates/low/src/lib.rt", "`count_ones` counts", "`counts` counts", "counts")

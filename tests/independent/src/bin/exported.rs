@@ -1,12 +1,13 @@
-//! Compares the functions that the static library libchip.a gives to C with
+//! Compares the functions that the static library libkamvezhor.a gives to C with
 //! an implementation written apart from them.
 //!
 //! `exported` takes no arguments. It stands behind a feature, since it can
 //! only be linked where the library is. With the library at
-//! target/staticlib/libchip.a under the root, and from this package's folder:
+//! target/dist/libkamvezhor.a under the root, where tools/dist puts it, and
+//! from this package's folder:
 //!
 //! ```text
-//! RUSTFLAGS="-L native=$(realpath ../../target/staticlib)" cargo build --release --offline \
+//! RUSTFLAGS="-L native=$(realpath ../../target/dist)" cargo build --release --offline \
 //!     --features exported --bin exported --target-dir ../../target/exported
 //! ../../target/exported/release/exported
 //! ```

@@ -24,7 +24,7 @@ struct MessageAnswer {
     ns_length: u32,
 }
 
-#[link(name = "chip", kind = "static")]
+#[link(name = "kamvezhor", kind = "static")]
 extern "C" {
     fn kamvezhor_read_frame(
         run: *const u8,
