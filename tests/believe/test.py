@@ -325,6 +325,28 @@ class Walk(unittest.TestCase):
                 self.edit(LOW, "Tells run.now word result [] out.new", ensured)
                 self.assertIn(f"{LOW}: tell {FORM}\n", self.walk()[0])
 
+    def test_methods_and_conversions(self):
+        method = "\nimpl Size {\n    pub fn told(self, out: &mut [u8]) -> Sign\n        ensures { Tells self.size 0 result [] out.new }\n    {\n        Sign::Minus\n    }\n\n    fn inner(self) {\n    }\n}\n"
+        conversion = "\nimpl From<usize> for Size {\n    ghost from_gives = { Sizes };\n\n    fn from(size: usize) -> Size {\n        Size { size }\n    }\n}\n"
+        self.put(LOW, (self.root / LOW).read_text() + method)
+        self.assertEqual(self.walk(), ("", 0))
+        self.put(LOW, (self.root / LOW).read_text().replace("Tells self.size 0 result [] out.new", "word self.size ≡ 0"))
+        self.breaches(f"{LOW}: Size::told {FORM}")
+        self.setUp()
+        self.put(LOW, (self.root / LOW).read_text() + conversion)
+        self.breaches(f"{LOW}: Size::from cites Sizes, which is not to be found", f"{LOW}: Size::from {FORM}")
+        self.edit(WORDS, "abbrev pub size", "abbrev pub Sizes : ℕ → Size → Type 0\nSizes n s = s.size ≡ n\n\nabbrev pub size")
+        self.edit(WORDS, "use Rattle.low.specs.declared.Sign.{Sign}", "use Rattle.low.specs.declared.Size.{Size}\nuse Rattle.low.specs.declared.Sign.{Sign}")
+        self.edit(LOW, "{Tells, word}", "{Tells, word, Sizes}")
+        self.breaches(f"{LOW}: Size::from: its contract Sizes is not cited in DemandOne")
+
+    def test_ghost_members_are_walked(self):
+        for member in ("    pub size: usize,\n    ghost fits: { Step size 1 },\n}", "    pub size: usize,\n}\n\nimpl Model for Size {\n    ghost view = { λ s. Step s 1 };\n}"):
+            with self.subTest(member):
+                self.setUp()
+                self.edit(LOW, "    pub size: usize,\n}", member)
+                self.breaches(f"{INSIDE}: Step is reached from Size, and its file is marked inner")
+
     def test_no_contract(self):
         self.edit(LOW, "    ensures { Tells run.now word result [] out.new }\n{", "{")
         self.breaches(f"{LOW}: tell {FORM}")

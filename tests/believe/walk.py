@@ -6,9 +6,9 @@
     walk.py --reached [ROOT]  each definition reached
 
 It holds that (1) what is reached stands in specs/, or is a type declared in src/; (2) each file of specs/ says on its first line whether
-it is to be believed or inner; (3) in a file to be believed every definition is reached, in an inner one none; (4) each public function
-ensures one contract, by its name, which stands in its crate's specs/ and is cited in DemandOne, and one of a static library has the
-clauses of the function of its name that it exports; (5) docs/BELIEVED.md lists what is reached; (6) each definition to which docs/RULES.md
+it is to be believed or inner; (3) in a file to be believed every definition is reached, in an inner one none; (4) each public function,
+each conversion to a public type and the next of a public iterator ensures one contract, by its name, which stands in its crate's specs/ and
+is cited in DemandOne, and one of a static library has the clauses of the function of its name that it exports; (5) docs/BELIEVED.md lists what is reached; (6) each definition to which docs/RULES.md
 leads stands where it says.
 """
 import difflib
@@ -22,13 +22,18 @@ DEMANDS = ["DemandOne", "DemandTwo", "DemandThree", "SameOctets", "PositionsProv
 # For bench/ and for the probe alone: their functions pass on to those of the other crates, and promise nothing.
 WITHOUT_CONTRACTS = ["measure", "wire", "trials", "inner_trials"]
 # The words of the language itself, and the kit's libraries, where the walk ends.
-LANGUAGE = set(": = → × ⊥ _ result record let in Type Unit".split())
+LANGUAGE = set(": = → × ⊥ _ result record let in Type Unit tt".split())
 OF_KIT = ["std"]
 
 BELIEVED, INNER = "-- To be believed: ", "-- Inner: "
 BEGIN, END = "<!-- list -->", "<!-- end of list -->"
 TOKEN = re.compile(r"[(){};,]|[^\s(){};,]+")
 BLOCK = r"\s+(requires|ensures)\*?(?: \w+)? \{((?:[^{}]|\{[^{}]*\})*)\}"
+TYPE = re.compile(r"^(pub )?(?:enum|struct) (\w+)([^\n]*(?:\n(?:[ \t].*)?)*)", re.M)
+IMPL = re.compile(r"^impl(?:<[^>]*>)? (?:(\w+)(?:<[^{]*?>)? for )?(\w+)(?:<[^{]*?>)? \{\n(.*?)^\}", re.M | re.S)
+GHOST = re.compile(r"\bghost (\w+)(?: =|:) \{((?:[^{}]|\{[^{}]*\})*)\}")
+# What an impl of one of these does for a public type is promised by this member of it.
+PROMISED = {"From": "from_gives", "TryFrom": "try_from_gives", "Iterator": "next_gives"}
 CRATE = re.compile(r"^(\w+)( staticlib)?[^:\n]*:(.*)", re.M)
 
 
@@ -127,7 +132,7 @@ class File:
         self.tree, self.path = tree, path
         self.crate, self.part = path.split("/")[1:3]
         self.text = (tree.root / path).read_text()
-        self.own, self.constructors, self.imports, self.modules, self.functions = {}, {}, {}, {}, []
+        self.own, self.constructors, self.imports, self.modules, self.functions, self.public = {}, {}, {}, {}, [], []
         if self.part == "src":
             self.read_rt(re.sub(r"//.*", "", self.text))
         else:
@@ -173,18 +178,36 @@ class File:
                 self.tree.breach(f"{self.path}: {tokens[0]} is not understood")
 
     def read_rt(self, text):
-        for words in re.findall(r"^ghost (use [^;]*);", text, re.M):
+        for words in re.findall(r"^\s*ghost (use [^;]*);", text, re.M):
             self.use(words)
         for crate, listed in re.findall(r"^use (\w+)::(\w+|\{[^{}]*\});", text, re.M):
             crate = self.crate if crate in ("crate", "self", "super") else crate
             for name in re.findall(r"\b[A-Z]\w*", listed):
                 self.imports[name] = (f"Rattle.{crate}.specs.declared.{name}", name)
-        for name, body in re.findall(r"^(?:pub )?(?:enum|struct) (\w+)([^}]*)", text, re.M):
-            self.define(name, [("declared", re.findall(r"\w+", body))])
-        for match in re.finditer(rf'^\s*pub (?:extern "C" )?fn (\w+)([^{{]*?)((?:{BLOCK})*)\s*\{{', text, re.M):
-            arguments = [("field", [name]) for name in re.findall(r"(\w+):", match[2])]
+        self.public = []
+        for seen, name, body in TYPE.findall(text):
+            self.public += [name] if seen else []
+            self.define(name, [("declared", re.findall(r"\w+", GHOST.sub("", body))), *self.members(body)])
+        self.read_functions(text, "", False)
+        for of, name, body in IMPL.findall(text):
+            if name in self.own:
+                self.own[name].pieces += self.members(body) if of not in PROMISED else []
+            if not of:
+                self.read_functions(body, name + "::", True)
+            elif of in PROMISED and name in self.public:
+                promised = [("ensures", TOKEN.findall(block)) for member, block in GHOST.findall(body) if member == PROMISED[of]]
+                self.functions.append(Definition(self, f"{name}::{PROMISED[of].removesuffix('_gives')}", promised))
+
+    def members(self, body):
+        """What is said of a type for proofs: its ghost fields, and how it is seen."""
+        return [("ghost", TOKEN.findall(block)) for _, block in GHOST.findall(body)]
+
+    def read_functions(self, text, prefix, inside):
+        indent = r"[ \t]+" if inside else ""
+        for match in re.finditer(rf'^{indent}pub (?:extern "C" )?fn (\w+)([^{{]*?)((?:{BLOCK})*)\s*\{{', text, re.M):
+            arguments = [("field", [name]) for name in re.findall(r"(\w+):", match[2]) + ["self"] * inside]
             blocks = [(word, TOKEN.findall(block)) for word, block in re.findall(BLOCK, match[3])]
-            self.functions.append(Definition(self, match[1], arguments + blocks))
+            self.functions.append(Definition(self, prefix + match[1], arguments + blocks))
 
     def find(self, name):
         """What a name stands for, of the file's own and then of its imports. None if it is bound, or of the kit's library."""
@@ -315,6 +338,9 @@ def main(arguments):
     unique = found["DemandOne"].cited() if "DemandOne" in found else []
     for file in tree.glob("crates/*/src/*.rt"):
         if tree.glob(f"crates/{file.crate}/src/lib.rt") and file.crate not in WITHOUT_CONTRACTS:
+            # Whoever uses a public type believes how its values are seen.
+            for name in file.public:
+                tree.walk([file.own[name]] if any(kind == "ghost" for kind, _ in file.own[name].pieces) else [], name)
             for function in file.functions:
                 tree.walk(function.cited(), function.name)
                 check_contract(function, unique)

@@ -13,6 +13,9 @@ from textwrap import indent
 # For bench/ and for the probe alone: no operations of the product.
 WITHOUT_OPERATIONS = ["measure", "wire", "trials", "inner_trials"]
 PUBLIC = re.compile(r"^pub (?:extern \"C\" )?fn (\w+)", re.M)
+IMPL = re.compile(r"^impl(?:<[^>]*>)? (?:(\w+)(?:<[^{]*?>)? for )?(\w+)(?:<[^{]*?>)? \{\n(.*?)^\}", re.M | re.S)
+# What a conversion or an iterator of a public type does is an operation too; what is derived, printed or seen by proofs alone is none.
+CALLED = ["From", "TryFrom", "Iterator"]
 
 
 def crates_of(root):
@@ -70,14 +73,23 @@ def readme_crates(root):
     yield from differences("README.md", due, found)
 
 
+def public_in(code):
+    """The public functions of a text: those at the margin, and those of its public types, by the type's name."""
+    yield from PUBLIC.findall(code)
+    public = re.findall(r"^pub (?:enum|struct) (\w+)", code, re.M)
+    for of, name, body in IMPL.findall(code):
+        if name in public and (not of or of in CALLED):
+            yield from (f"{name}::{each}" for each in re.findall(r"^    fn (\w+)" if of else r"^    pub fn (\w+)", body, re.M))
+
+
 def operations(root):
     """docs/OPERATIONS.md names each public function once, and nothing else."""
     due = []
     for crate in crates_of(root):
         if crate not in WITHOUT_OPERATIONS:
-            due += [[f"{crate}::{name}"] for name in PUBLIC.findall(code_of(root, crate))]
+            due += [[f"{crate}::{name}"] for name in public_in(code_of(root, crate))]
     page = root / "docs" / "OPERATIONS.md"
-    found = [[name] for row in rows_of(page, "operation") for name in re.findall(r"`(\w+::\w+)`", row[0])]
+    found = [[name] for row in rows_of(page, "operation") for name in re.findall(r"`(\w+(?:::\w+)+)`", row[0])]
     yield from differences("docs/OPERATIONS.md", sorted(due), sorted(found))
 
 

@@ -7,7 +7,7 @@ It holds that (1) a link of a document leads to a file, and to a heading of it; 
 must-fail edit; (3) `crate::name` is declared in that crate's src/, and `Record.line` is a line of that record; (4) every word between
 backticks is a word of the code, or of a file's name; (5) "RULES, Frames 3" is a rule; (6) a family of requests that a document quotes,
 as "wishes: not minimal", is one of tests/independent. Of a path of what is built only the words are looked up, of an error quoted with
-gaps (..) nothing. docs/PORT.md sets names that were beside those that are: of it only the links are looked up.
+gaps (..) nothing. docs/PORT.md and docs/DESIGN-PASS.md set names that were beside those that are: of them only the links are looked up.
 """
 import fnmatch
 import re
@@ -17,7 +17,7 @@ from pathlib import Path
 SLASHES = r"//.*|/\*[\s\S]*?\*/"
 COMMENTS = {".rt": SLASHES, ".rs": SLASHES, ".c": SLASHES, ".h": SLASHES, ".antt": r"(?<!\S)--(?!\S).*"}
 HASH = r"(?<!\S)#(?!\S).*"
-WAS = Path("docs/PORT.md")
+WAS = [Path("docs/PORT.md"), Path("docs/DESIGN-PASS.md")]
 SEPARATORS = r"[\s(){}\[\];,:.\"'`|&<>=*!/+#@%?\\^~$]+"
 
 
@@ -138,12 +138,12 @@ class Tree:
         lines = [(path, *line) for path, all_lines in documents.items() for line in all_lines]
         comments = [(path, *comment) for path, all_comments in self.comments.items() for comment in all_comments]
         for place in lines + comments:
-            if place[0] != WAS:
+            if place[0] not in WAS:
                 self.spans(*place)
                 self.citations(*place)
         for place in lines:
             self.links(*place)
-            if place[0] != WAS:
+            if place[0] not in WAS:
                 self.families(*place)
         return self.breaches
 

@@ -59,6 +59,10 @@ fn main() {
 # The file, what is replaced in it and by what, and the lines that are due.
 EDITS = [
     ("crates/low/src/lib.rt", "fn inner", "pub fn outer", ["docs/OPERATIONS.md lacks low::outer"]),
+    ("crates/low/src/lib.rt", "fn inner() {\n}\n", "pub enum Kind {}\nimpl Kind {\n    pub fn number(self) {}\n    fn inner(self) {}\n}\nimpl From<u8> for Kind {\n    fn from(_: u8) {}\n}\n",
+     ["docs/OPERATIONS.md lacks low::Kind::from", "docs/OPERATIONS.md lacks low::Kind::number",
+      "docs/CHECK.md has `low` | 6 | 2 | 0 | 0 | 1", "docs/CHECK.md has all | 17 | 2 | 1 | 2 | 1",
+      "docs/CHECK.md lacks `low` | 12 | 2 | 0 | 0 | 1", "docs/CHECK.md lacks all | 23 | 2 | 1 | 2 | 1"]),
     ("docs/OPERATIONS.md", "`high::up`", "`high::down`", ["docs/OPERATIONS.md has high::down", "docs/OPERATIONS.md lacks high::up"]),
     ("README.md", "| 2 | more", "| 3 | more",
      ["README.md has `high` | 3 | `measure`, `example`", "README.md lacks `high` | 2 | `measure`, `example`"]),

@@ -8,12 +8,14 @@ use lib.Seq.{take_at}
 use Rattle.octets.specs.Lay.{put}
 use Rattle.frame.specs.Reader as reader
 use Rattle.frame.specs.Writer as writer
-use Rattle.frame.specs.declared.FrameRead.{FrameRead}
-use Rattle.frame.specs.declared.FrameWritten.{FrameWritten}
+use Rattle.std.specs.Prelude.{Result}
+use Rattle.frame.specs.declared.FrameReadRefusal.{FrameReadRefusal}
+use Rattle.frame.specs.declared.FrameWriteRefusal.{FrameWriteRefusal}
 use Rattle.tree.specs.Fields.{fours}
 use Rattle.fill.proofs.Stored.{fours-length}
 use Rattle.message.specs.Reader.{list_room, message_codes, Reading, refused, accepted, read_message, read_told, read_reply, codes_read, Reads, room_of}
-use Rattle.message.specs.declared.MessageRead.{MessageRead}
+use Rattle.message.specs.declared.Message.{Message}
+use Rattle.message.specs.declared.MessageReadRefusal.{MessageReadRefusal}
 use Rattle.message.proofs.Reading.{room_enough}
 use Rattle.chip.specs.Answers.{frame_read_answer, frame_write_answer, ReadsFrame, WritesFrame, message_answer, ReadsMessage}
 use Rattle.chip.specs.declared.FrameReadAnswer.{FrameReadAnswer}
@@ -21,19 +23,19 @@ use Rattle.chip.specs.declared.FrameWriteAnswer.{FrameWriteAnswer}
 use Rattle.chip.specs.declared.MessageAnswer.{MessageAnswer}
 
 -- the frame reader
-pub frame_read_same : (run : List ℕ) (count : ℕ) (out₀ : List ℕ) (r : FrameRead) (r' : FrameReadAnswer) (out₁ out₁' : List ℕ)
+pub frame_read_same : (run : List ℕ) (count : ℕ) (out₀ : List ℕ) (r : Result ℕ FrameReadRefusal) (r' : FrameReadAnswer) (out₁ out₁' : List ℕ)
     → reader.Reads (reader.read_frame run count (length out₀)) out₀ r out₁ → ReadsFrame run count out₀ r' out₁'
     → (r' ≡ frame_read_answer (reader.read_told r)) × (out₁' ≡ out₁)
 frame_read_same run count out₀ r r' out₁ out₁' a b = (b.reply ∙ ap frame_read_answer (sym a.reply), b.output ∙ sym a.output)
 
 -- the frame writer
-pub frame_write_same : (info : List ℕ) (opening closing : ℕ) (out₀ : List ℕ) (r : FrameWritten) (r' : FrameWriteAnswer) (out₁ out₁' : List ℕ)
+pub frame_write_same : (info : List ℕ) (opening closing : ℕ) (out₀ : List ℕ) (r : Result ℕ FrameWriteRefusal) (r' : FrameWriteAnswer) (out₁ out₁' : List ℕ)
     → writer.Writes (writer.write_frame info opening closing (length out₀)) out₀ r out₁ → WritesFrame info opening closing out₀ r' out₁'
     → (r' ≡ frame_write_answer (writer.write_told r)) × (out₁' ≡ out₁)
 frame_write_same info opening closing out₀ r r' out₁ out₁' a b = (b.reply ∙ ap frame_write_answer (sym a.reply), b.output ∙ sym a.output)
 
 -- the message reader, with lists that are large enough: as many codes are told, and the octets at the front are those of the numbers there
-pub message_read_same : (l list₀ octets₀ : List ℕ) (r : MessageRead) (r' : MessageAnswer) (list₁ octets₁ : List ℕ) → list_room ≤ length list₀
+pub message_read_same : (l list₀ octets₀ : List ℕ) (r : Result Message MessageReadRefusal) (r' : MessageAnswer) (list₁ octets₁ : List ℕ) → list_room ≤ length list₀
     → list_room ≤ room_of octets₀ → Reads l list₀ r list₁ → ReadsMessage l octets₀ r' octets₁
     → (r' ≡ message_answer (read_told r)) × (take (4 * r'.codes) octets₁ ≡ fours (take r'.codes list₁))
 unfolding put fours

@@ -2,13 +2,13 @@
 // functions on numbers and slices, each with the promise of the operation that it passes on. Crate `chip_c` exports them.
 #![tactic(auto)]
 
-ghost use Rattle.std.specs.Prelude.{◌≡◌};
 ghost use Rattle.chip.specs.Answers.{ReadsFrame, WritesFrame, ReadsMessage};
 
-use frame::{FrameRead, FrameWritten, read_frame, write_frame};
-use message::{MessageRead, read_octets};
+use frame::{read_frame, write_frame};
+use message::read_octets;
 
-// What the frame reader answers: the rules' number, 0 for success, and the number of octets read.
+// What the frame reader answers: the rules' number, 0 for success, and the number of octets read. C has no Result, here and below, so both
+// stand beside each other.
 #[repr(C)]
 #[derive(Clone, Copy)]
 pub struct FrameReadAnswer {
@@ -42,26 +42,14 @@ pub fn kamvezhor_read_frame(run: &[u8], bits: usize, out: &mut [u8]) -> FrameRea
     ensures { ReadsFrame run.now bits out.old result out.new }
 {
     match read_frame(run, bits, out) {
-        FrameRead::Octets(n) => FrameReadAnswer {
+        Ok(n) => FrameReadAnswer {
             refusal: 0,
             octets: n as u32,
         },
-        FrameRead::BadLent => read_refusal(1),
-        FrameRead::BadFlags => read_refusal(2),
-        FrameRead::SplitOctet => read_refusal(3),
-        FrameRead::TooShort => read_refusal(4),
-        FrameRead::TooLong => read_refusal(5),
-        FrameRead::WrongCheck => read_refusal(6),
-    }
-}
-
-// A refusal of the reader, which gives no octets.
-fn read_refusal(no: u32) -> FrameReadAnswer
-    ensures { result ≡ record { refusal = no; octets = 0 } }
-{
-    FrameReadAnswer {
-        refusal: no,
-        octets: 0,
+        Err(unread) => FrameReadAnswer {
+            refusal: unread as u32,
+            octets: 0,
+        },
     }
 }
 
@@ -77,37 +65,14 @@ pub fn kamvezhor_write_frame(
     ensures { WritesFrame information.now opening closing out.old result out.new }
 {
     match write_frame(information, opening, closing, out) {
-        FrameWritten::Bits(n) => FrameWriteAnswer {
+        Ok(n) => FrameWriteAnswer {
             refusal: 0,
             bits: n as u32,
         },
-        FrameWritten::BadLent => write_refusal(1),
-        FrameWritten::BadLength => write_refusal(7),
-        FrameWritten::BadFlagCount => write_refusal(8),
-    }
-}
-
-// A refusal of the writer, which gives no bits.
-fn write_refusal(no: u32) -> FrameWriteAnswer
-    ensures { result ≡ record { refusal = no; bits = 0 } }
-{
-    FrameWriteAnswer {
-        refusal: no,
-        bits: 0,
-    }
-}
-
-// A refusal, which tells nothing of the message.
-fn message_refusal(no: u32) -> MessageAnswer
-    ensures { result ≡ record { refusal = no; kind = 0; revision = 0; codes = 0; ns_at = 0; ns_length = 0 } }
-{
-    MessageAnswer {
-        refusal: no,
-        kind: 0,
-        revision: 0,
-        codes: 0,
-        ns_at: 0,
-        ns_length: 0,
+        Err(unwritten) => FrameWriteAnswer {
+            refusal: unwritten as u32,
+            bits: 0,
+        },
     }
 }
 
@@ -116,7 +81,7 @@ pub fn kamvezhor_read_message(message: &[u8], list: &mut [u8]) -> MessageAnswer
     ensures { ReadsMessage message.now list.old result list.new }
 {
     match read_octets(message, list) {
-        MessageRead::Read(m) => MessageAnswer {
+        Ok(m) => MessageAnswer {
             refusal: 0,
             kind: m.kind as u32,
             revision: m.revision as u32,
@@ -124,9 +89,13 @@ pub fn kamvezhor_read_message(message: &[u8], list: &mut [u8]) -> MessageAnswer
             ns_at: m.ns.at as u32,
             ns_length: m.ns.length as u32,
         },
-        MessageRead::BadLent => message_refusal(1),
-        MessageRead::BadSize => message_refusal(2),
-        MessageRead::UnknownType => message_refusal(3),
-        MessageRead::Malformed => message_refusal(4),
+        Err(refused) => MessageAnswer {
+            refusal: refused as u32,
+            kind: 0,
+            revision: 0,
+            codes: 0,
+            ns_at: 0,
+            ns_length: 0,
+        },
     }
 }

@@ -9,6 +9,9 @@ use native.Mathlib.Omega.{arith}
 use borrow.Author.Tests.{leb-true, le-leb, lt-leb}
 use lib.Dec.{leb, eqb}
 use lib.ListN.{length, take, drop}
+use Rattle.std.specs.Prelude.{Option, Some}
+use Rattle.std.specs.Bool.{then_some}
+use Rattle.std.specs.Option.{option_eq}
 use Rattle.octets.specs.Places.{pick, both}
 use Rattle.tree.specs.Codes.{field_base, field_codes, field_behind}
 use Rattle.tree.specs.Form.{is_fine, field_form}
@@ -25,7 +28,6 @@ use Rattle.good.specs.Goodness.{Names, good_blocks, good_in, all_pass, good_by}
 use Rattle.choice.specs.Inner.{wish_in, records_by}
 use Rattle.good.proofs.Allowed.{both_none}
 use Rattle.good.proofs.Judgement.{field_judged_lem}
-use Rattle.good.proofs.Stepping.{judged_bad, judged_good, field_above}
 use Rattle.choice.proofs.Tabled.{standard_at_lem}
 
 -- ---- a field
@@ -58,14 +60,13 @@ pub long_bad : (n t : List ℕ) → most_standard < length t → false ≡ good_
 unfolding good_in
 long_bad n t h = rw (lt-leb (length t) most_standard h)
 
-module _ (n t : List ℕ) (short : length t ≤ most_standard) {r : ℕ} (j : r ≡ pick (good_blocks n t) (field_behind t 0) 0) where
-  pub blocks_bad : r ≡ 0 → false ≡ good_in n t
-  unfolding good_in
-  blocks_bad z = rw (le-leb (length t) most_standard short, judged_bad (good_blocks n t) (field_behind t 0) j (field_above n t) z)
-
-  pub blocks_tell : (r ≡ 0 → ⊥) → eqb r (length t) ≡ good_in n t
-  unfolding good_in
-  blocks_tell z = let g = judged_good (good_blocks n t) (field_behind t 0) j z in rw (le-leb (length t) most_standard short, g.0, g.1)
+pub blocks_tell : (n t : List ℕ) → length t ≤ most_standard → {r : Option ℕ} → r ≡ then_some (good_blocks n t) (field_behind t 0) → option_eq eqb r (Some (length t)) ≡ good_in n t
+unfolding good_in
+blocks_tell n t short e = rw (e, le-leb (length t) most_standard short) (go (good_blocks n t))
+  where
+    go : (g : Bool) → option_eq eqb (then_some g (field_behind t 0)) (Some (length t)) ≡ both g (eqb (field_behind t 0) (length t))
+    go true = refl
+    go false = refl
 
 -- the test may be that codes are standard
 pass_standard : (l : List ℕ) → all_pass standard_code l ≡ all_standard l

@@ -1,13 +1,16 @@
 -- The choice: it is the first wish that suits, and it depends on nothing but the codes of the own table, the far list and the wishes.
 -- Assumes nothing.
-use Prim.Native.Nat.{ℕ, zero, suc, ◌+◌, ◌-◌, ◌≤◌}
+use Prim.Native.Nat.{ℕ, zero, suc, ◌+◌, ◌≤◌}
 use mathlib.Core.Bool.{Bool, true, false}
 use mathlib.Core.List.Memᴰ
 use mathlib.Core.List.{List, [], ◌∷◌, ◌++◌, append_assoc, Memᴰ}
 use mathlib.Core.Logic.{⊎_elim}
 use mathlib.Core.Path.{◌≡◌, refl, sym, ap, ◌∙◌}
 use native.Mathlib.Omega.{arith}
-use lib.ListN.{length, take, drop, length-append}
+use borrow.Author.Tests.{leb-true}
+use lib.Dec.{leb, eqb}
+use lib.ListN.{length, take, drop, length-append, length-drop}
+use lib.Seq.{drop-drop, length-take-le}
 use Rattle.octets.specs.Places.{pick}
 use Rattle.tree.specs.Fields.{is_in, all_in}
 use Rattle.tree.proofs.Within.{all_in_same, is_in-all_in, all_in-is_in}
@@ -17,14 +20,9 @@ use Rattle.names.proofs.Sieving.{in_only}
 use Rattle.choice.specs.Wishes.{Wish, most_wishes, wishes_in, wishes_of, standard_codes, wish_codes, good_wish, good_wishes}
 use Rattle.choice.specs.Tables.{tables_no}
 use Rattle.choice.specs.Choosing.{Far, unheard, heard, suits, Choosing, chosen, refused, first_suiting, choice, First}
-use Rattle.choice.specs.Inner.{wish_at, Enters}
-use Rattle.choice.specs.declared.Entry.{Entry}
-use Rattle.choice.specs.declared.Entry.TheVariants.{Record, Over}
 use Rattle.choice.specs.declared.Pick.{Pick}
-use Rattle.choice.specs.declared.Slot.{Slot}
 use Rattle.choice.proofs.Truths.{same_tests}
 use Rattle.octets.proofs.Laws.{both_true}
-use Rattle.choice.proofs.Records.{entered, choice_step}
 use Rattle.choice.proofs.Tabled.{good_fields, wish_named, tables_good}
 
 -- ---- the first that suits
@@ -39,78 +37,96 @@ abbrev many : Choosing → ℕ
 many (chosen p) = 1
 many (refused n) = 0
 
--- the choice is among the wishes from a place on, k of them at most, and none before them suits
-record Ahead (own : List ℕ) (far : Far) (run : List ℕ) (p : Pick) (k at : ℕ) (before : List Wish) : Type 0 where
-  within : at ≤ length run
+-- the choice is among the wishes that octets begin with, k of them at most, from a place on, and none before them suits
+record Ahead (own : List ℕ) (far : Far) (run : List ℕ) (p : Pick) (k at : ℕ) (l : List ℕ) (before : List Wish) : Type 0 where
+  ends : at + length l ≡ length run
+  octets : drop at run ≡ l
   count : length before + k ≡ most_wishes
-  wishes : wishes_of run ≡ before ++ wishes_in k (drop at run)
+  wishes : wishes_of run ≡ before ++ wishes_in k l
   none : (w : Wish) → Memᴰ w before → suits own far w ≡ false
-  told : first_suiting own far (wishes_in k (drop at run)) (length before) at ≡ chosen p
+  told : first_suiting own far (wishes_in k l) (length before) at ≡ chosen p
 
-module _ (own : List ℕ) (far : Far) (run : List ℕ) (p : Pick) (k at : ℕ) (before : List Wish) (a : Ahead own far run p (suc k) at before) where
-  module _ (x : Slot) (e : Enters run at (Record x)) where
-    -- the record there is chosen, or the choice is among those behind it
-    at_record : pick (suits own far (wish_at run x)) (chosen (record { number = length before + 1; at = x.start; length = x.end - x.start }))
-        (first_suiting own far (wishes_in k (drop x.end run)) (length before + 1) x.end)
-        ≡ chosen p
-    at_record = sym (choice_step own far run at (length before) x e (wishes_in k (drop x.end run))) ∙ (rw (e.0 k) at a.told)
+-- one record ahead, whose field is n octets of some
+module _ (own : List ℕ) (far : Far) (run : List ℕ) (p : Pick) (k at : ℕ) (before : List Wish) (r n : ℕ) (l : List ℕ) (h : n ≤ length l) where
+  abbrev wish : Wish
+  wish = record { ready = eqb r 1; field = take n l }
 
-    -- where it suits, it is the first
-    here : suits own far (wish_at run x) ≡ true → First own far run p
-    here s =
-        let q = rw s at at_record in
-        let n : p.number ≡ length before + 1 = sym (ap (λ (c : Choosing). (picked c).number) q) in
-        let i : p.at ≡ x.start = sym (ap (λ (c : Choosing). (picked c).at) q) in
-        let l : p.length ≡ x.end - x.start = sym (ap (λ (c : Choosing). (picked c).length) q) in
+  abbrev others : List Wish
+  others = wishes_in k (drop n l)
+
+  module _ (ends : at + length (r ∷ (n ∷ l)) ≡ length run) (octets : drop at run ≡ r ∷ (n ∷ l)) (count : length before + suc k ≡ most_wishes)
+      (wishes : wishes_of run ≡ before ++ (wish ∷ others)) (none : (w : Wish) → Memᴰ w before → suits own far w ≡ false) where
+    -- its field
+    field_at : drop (at + 2) run ≡ l
+    field_at = sym (drop-drop 2 at run) ∙ ap (drop 2) octets
+
+    -- it is chosen, and the first that suits
+    here : suits own far wish ≡ true → chosen (record { number = length before + 1; at = at + 2; length = length (take n l) }) ≡ chosen p → First own far run p
+    here s q =
+        let size : length (take n l) ≡ n = length-take-le n l h in
+        let a : p.number ≡ length before + 1 = sym (ap (λ (c : Choosing). (picked c).number) q) in
+        let b : p.at ≡ at + 2 = sym (ap (λ (c : Choosing). (picked c).at) q) in
+        let c : p.length ≡ n = sym (ap (λ (c : Choosing). (picked c).length) q) ∙ size in
         record {
           before = before;
-          wish = wish_at run x;
-          rest = wishes_in k (drop x.end run);
-          wishes = a.wishes ∙ rw (e.0 k);
-          none = a.none;
+          wish = wish;
+          rest = others;
+          wishes = wishes;
+          none = none;
           suited = s;
-          number = n;
-          few = omega (arith, a.count);
-          field = rw (l, i);
-          inside = omega (arith, e.2, e.3);
+          number = a;
+          few = omega (arith, count);
+          field = rw (c, b, field_at);
+          inside = omega (arith, ends);
         }
 
-    -- where it does not, the choice is ahead still
-    onward : suits own far (wish_at run x) ≡ false → Ahead own far run p k x.end (before ++ (wish_at run x ∷ []))
-    onward s =
+    -- it is not, and the choice is ahead still
+    onward : suits own far wish ≡ false → first_suiting own far others (length before + 1) (at + 2 + length (take n l)) ≡ chosen p
+        → Ahead own far run p k (at + 2 + length (take n l)) (drop n l) (before ++ (wish ∷ []))
+    onward s t =
+        let size : length (take n l) ≡ n = length-take-le n l h in
         record {
-          within = e.3;
-          count = omega (arith, length-append before (wish_at run x ∷ []), a.count);
-          wishes = a.wishes ∙ rw (e.0 k) (sym (append_assoc before (wish_at run x ∷ []) (wishes_in k (drop x.end run))));
-          none = λ w m. ⊎_elim (a.none w) (λ d. ap (suits own far) (Memᴰ.eq_of_singleton d) ∙ s) (Memᴰ.append_cases before m);
-          told = rw (length-append before (wish_at run x ∷ [])) (rw s at at_record);
+          ends = omega (arith, ends, size, length-drop n l);
+          octets = rw size (sym (drop-drop n (at + 2) run) ∙ ap (drop n) field_at);
+          count = omega (arith, length-append before (wish ∷ []), count);
+          wishes = wishes ∙ sym (append_assoc before (wish ∷ []) others);
+          none = λ w m. ⊎_elim (none w) (λ d. ap (suits own far) (Memᴰ.eq_of_singleton d) ∙ s) (Memᴰ.append_cases before m);
+          told = rw (length-append before (wish ∷ [])) t;
         }
 
-  -- one step towards it
-  first_step : ((i : ℕ) (b : List Wish) → Ahead own far run p k i b → First own far run p) → First own far run p
-  unfolding first_suiting
-  first_step further = go (entered run at a.within).0 (entered run at a.within).1
-    where
-      test : (x : Slot) (e : Enters run at (Record x)) (t : Bool) → suits own far (wish_at run x) ≡ t → First own far run p
-      test x e true s = here x e s
-      test x e false s = further x.end (before ++ (wish_at run x ∷ [])) (onward x e s)
-
-      go : (r : Entry) → Enters run at r → First own far run p
-      go (Record x) e = test x e (suits own far (wish_at run x)) refl
-      go Over e = absurd (omega (arith, ap many (rw (e k) at a.told)))
-
--- and so many steps on
-first_from : (own : List ℕ) (far : Far) (run : List ℕ) (p : Pick) (k at : ℕ) (before : List Wish) → Ahead own far run p k at before → First own far run p
+-- so it is one of them
+first_from : (own : List ℕ) (far : Far) (run : List ℕ) (p : Pick) (k at : ℕ) (l : List ℕ) (before : List Wish) → Ahead own far run p k at l before → First own far run p
 unfolding wishes_in first_suiting
-first_from own far run p zero at before a = absurd (omega (arith, ap many a.told))
-first_from own far run p (suc k) at before a = first_step own far run p k at before a (λ i b d. first_from own far run p k i b d)
+first_from own far run p zero at l before a = absurd (omega (arith, ap many a.told))
+first_from own far run p (suc k) at [] before a = absurd (omega (arith, ap many a.told))
+first_from own far run p (suc k) at (r ∷ []) before a = absurd (omega (arith, ap many a.told))
+first_from own far run p (suc k) at (r ∷ (n ∷ l)) before a = go (λ i m b d. first_from own far run p k i m b d) (leb n (length l)) refl a.wishes a.told
+  where
+    w : Wish
+    w = record { ready = eqb r 1; field = take n l }
+
+    Further : Type 0
+    Further = (i : ℕ) (m : List ℕ) (b : List Wish) → Ahead own far run p k i m b → First own far run p
+
+    test : Further → (h : n ≤ length l) → wishes_of run ≡ before ++ (w ∷ wishes_in k (drop n l)) → (t : Bool) → suits own far w ≡ t
+        → pick t (chosen (record { number = length before + 1; at = at + 2; length = length (take n l) })) (first_suiting own far (wishes_in k (drop n l)) (length before + 1) (at + 2 + length (take n l))) ≡ chosen p
+        → First own far run p
+    test further h ws true s q = here own far run p k at before r n l h a.ends a.octets a.count ws a.none s q
+    test further h ws false s q =
+        further (at + 2 + length (take n l)) (drop n l) (before ++ (w ∷ []))
+        (onward own far run p k at before r n l h a.ends a.octets a.count ws a.none s q)
+
+    go : Further → (t : Bool) → leb n (length l) ≡ t → wishes_of run ≡ before ++ pick t (w ∷ wishes_in k (drop n l)) []
+        → first_suiting own far (pick t (w ∷ wishes_in k (drop n l)) []) (length before) at ≡ chosen p → First own far run p
+    go further true e ws q = test further (leb-true n (length l) e) ws (suits own far w) refl q
+    go further false e ws q = absurd (omega (arith, ap many q))
 
 -- what is chosen is the first wish that suits
 pub chosen_first : (own : List ℕ) (far : Far) (run : List ℕ) (p : Pick) → choice own far run ≡ chosen p → First own far run p
 unfolding choice
 chosen_first own far run p e =
-    first_from own far run p most_wishes 0 []
-    (record { within = omega arith; count = refl; wishes = refl; none = λ w m. absurd (Memᴰ.not-nil m); told = e })
+    first_from own far run p most_wishes 0 run []
+    (record { ends = omega arith; octets = refl; count = refl; wishes = refl; none = λ w m. absurd (Memᴰ.not-nil m); told = e })
 
 -- it is one of the wishes
 pub first_member : {own : List ℕ} {far : Far} {run : List ℕ} {p : Pick} (f : First own far run p) → Memᴰ f.wish (wishes_of run)

@@ -7,6 +7,8 @@ use mathlib.Core.List.{List, [], ◌∷◌, Memᴰ}
 use mathlib.Core.Logic.{⊎_elim}
 use mathlib.Core.Path.{◌≡◌, refl, sym, ◌∙◌}
 use native.Mathlib.Omega.{arith}
+use Rattle.std.specs.Prelude.{◌||◌}
+use Rattle.std.specs.List.{list_any}
 use Rattle.octets.specs.Places.{pick, both}
 use Rattle.tree.specs.Fields.{is_in, all_in, has_spar}
 use Rattle.tree.proofs.Within.{is_in-all_in, all_in-is_in}
@@ -20,64 +22,60 @@ use Rattle.choice.proofs.Tabled.{wish_named}
 
 -- ---- some wish passes a test
 
--- whether one of the wishes does
-unfoldable some_wish : (Wish → Bool) → List Wish → Bool
-some_wish f [] = false
-some_wish f (w ∷ ws) = pick (f w) true (some_wish f ws)
+-- as a list's own test says it
+or_else : (t x : Bool) → pick t true x ≡ t || x
+or_else true x = refl
+or_else false x = refl
 
 -- a mode fits some wish
-fits_some_lem : (mode : List ℕ) (ws : List Wish) → fits_some mode ws ≡ some_wish (fits mode) ws
-unfolding fits_some some_wish
+fits_some_lem : (mode : List ℕ) (ws : List Wish) → fits_some mode ws ≡ list_any (fits mode) ws
+unfolding fits_some
 fits_some_lem mode [] = refl
-fits_some_lem mode (w ∷ ws) = rw (fits_some_lem mode ws)
+fits_some_lem mode (w ∷ ws) = rw (fits_some_lem mode ws) (or_else (fits mode w) (list_any (fits mode) ws))
 
 -- and some ready wish
 abbrev fits_if_ready : List ℕ → Wish → Bool
 fits_if_ready mode w = both w.ready (fits mode w)
 
-fits_ready_lem : (mode : List ℕ) (ws : List Wish) → fits_ready mode ws ≡ some_wish (fits_if_ready mode) ws
-unfolding fits_ready some_wish
+fits_ready_lem : (mode : List ℕ) (ws : List Wish) → fits_ready mode ws ≡ list_any (fits_if_ready mode) ws
+unfolding fits_ready
 fits_ready_lem mode [] = refl
-fits_ready_lem mode (w ∷ ws) = rw (fits_ready_lem mode ws)
+fits_ready_lem mode (w ∷ ws) = rw (fits_ready_lem mode ws) (or_else (fits_if_ready mode w) (list_any (fits_if_ready mode) ws))
 
 -- where one is found, it is there and does
-some_one : (f : Wish → Bool) (ws : List Wish) → some_wish f ws ≡ true → (w : Wish) × Memᴰ w ws × (f w ≡ true)
-unfolding some_wish
+some_one : (f : Wish → Bool) (ws : List Wish) → list_any f ws ≡ true → (w : Wish) × Memᴰ w ws × (f w ≡ true)
 some_one f [] e = never e
 some_one f (v ∷ ws) e = go (f v) refl e (some_one f ws)
   where
-    go : (t : Bool) → f v ≡ t → pick t true (some_wish f ws) ≡ true → (some_wish f ws ≡ true → (w : Wish) × Memᴰ w ws × (f w ≡ true))
+    go : (t : Bool) → f v ≡ t → t || list_any f ws ≡ true → (list_any f ws ≡ true → (w : Wish) × Memᴰ w ws × (f w ≡ true))
         → (w : Wish) × Memᴰ w (v ∷ ws) × (f w ≡ true)
     go true p q others = (v, Memᴰ.head refl, p)
     go false p q others = let o = others q in (o.0, Memᴰ.tail o.1, o.2)
 
 -- where none is found, none does
-none_each : (f : Wish → Bool) (ws : List Wish) → some_wish f ws ≡ false → (w : Wish) → Memᴰ w ws → f w ≡ false
-unfolding some_wish
+none_each : (f : Wish → Bool) (ws : List Wish) → list_any f ws ≡ false → (w : Wish) → Memᴰ w ws → f w ≡ false
 none_each f [] e w m = absurd (Memᴰ.not-nil m)
 none_each f (v ∷ ws) e w m = go (f v) refl e (none_each f ws)
   where
-    go : (t : Bool) → f v ≡ t → pick t true (some_wish f ws) ≡ false → (some_wish f ws ≡ false → (u : Wish) → Memᴰ u ws → f u ≡ false) → f w ≡ false
+    go : (t : Bool) → f v ≡ t → t || list_any f ws ≡ false → (list_any f ws ≡ false → (u : Wish) → Memᴰ u ws → f u ≡ false) → f w ≡ false
     go true p q others = never (sym q)
     go false p q others = ⊎_elim (λ d. rw d p) (others q w) (Memᴰ.cases_cons m)
 
 -- and where none does, none is found
-each_none : (f : Wish → Bool) (ws : List Wish) → ((w : Wish) → Memᴰ w ws → f w ≡ false) → some_wish f ws ≡ false
-unfolding some_wish
+each_none : (f : Wish → Bool) (ws : List Wish) → ((w : Wish) → Memᴰ w ws → f w ≡ false) → list_any f ws ≡ false
 each_none f [] h = refl
 each_none f (v ∷ ws) h = rw (h v (Memᴰ.head refl)) (each_none f ws (λ w m. h w (Memᴰ.tail m)))
 
 -- one that does is found
-one_some : (f : Wish → Bool) (ws : List Wish) (w : Wish) → Memᴰ w ws → f w ≡ true → some_wish f ws ≡ true
-one_some f ws w m e = go (some_wish f ws) refl
+one_some : (f : Wish → Bool) (ws : List Wish) (w : Wish) → Memᴰ w ws → f w ≡ true → list_any f ws ≡ true
+one_some f ws w m e = go (list_any f ws) refl
   where
-    go : (t : Bool) → some_wish f ws ≡ t → t ≡ true
+    go : (t : Bool) → list_any f ws ≡ t → t ≡ true
     go true p = refl
     go false p = sym (none_each f ws p w m) ∙ e
 
 -- tests that are the same find the same
-some_same : (f g : Wish → Bool) (ws : List Wish) → ((w : Wish) → f w ≡ g w) → some_wish f ws ≡ some_wish g ws
-unfolding some_wish
+some_same : (f g : Wish → Bool) (ws : List Wish) → ((w : Wish) → f w ≡ g w) → list_any f ws ≡ list_any g ws
 some_same f g [] h = refl
 some_same f g (v ∷ ws) h = rw (h v, some_same f g ws h)
 
@@ -110,14 +108,14 @@ module _ (mode : List ℕ) (ws : List Wish) where
   fits_there f = rw f.spar f.lies
 
   -- the verdict, by what is found
-  told : verdict mode ws ≡ pick (some_wish (fits_if_ready mode) ws) 0 (pick (some_wish (fits mode) ws) 2 3)
+  told : verdict mode ws ≡ pick (list_any (fits_if_ready mode) ws) 0 (pick (list_any (fits mode) ws) 2 3)
   unfolding verdict
   told = rw (fits_ready_lem mode ws, fits_some_lem mode ws)
 
   -- a mode that is accepted has an SPar(1) and lies in a ready wish
   pub accepted : verdict mode ws ≡ 0 → (f : Fitting mode ws) × (f.wish.ready ≡ true)
   accepted e =
-      let o = some_one (fits_if_ready mode) ws (only_accepted (some_wish (fits_if_ready mode) ws) (some_wish (fits mode) ws) (sym told ∙ e)) in
+      let o = some_one (fits_if_ready mode) ws (only_accepted (list_any (fits_if_ready mode) ws) (list_any (fits mode) ws) (sym told ∙ e)) in
       let b = both_true o.0.ready (fits mode o.0) o.2 in
       (fitting o.0 o.1 b.1, b.0)
 
@@ -128,7 +126,7 @@ module _ (mode : List ℕ) (ws : List Wish) where
   -- a mode that is told not ready has an SPar(1) and lies in a wish, and in none that is ready
   pub not_ready : verdict mode ws ≡ 2 → Fitting mode ws × ((f : Fitting mode ws) → f.wish.ready ≡ false)
   not_ready e =
-      let t = only_not_ready (some_wish (fits_if_ready mode) ws) (some_wish (fits mode) ws) (sym told ∙ e) in
+      let t = only_not_ready (list_any (fits_if_ready mode) ws) (list_any (fits mode) ws) (sym told ∙ e) in
       let o = some_one (fits mode) ws t.1 in (
         fitting o.0 o.1 o.2,
         λ f. not_both f.wish.ready (fits mode f.wish) (none_each (fits_if_ready mode) ws t.0 f.wish f.member) (fits_there f),
@@ -145,7 +143,7 @@ module _ (mode : List ℕ) (ws : List Wish) where
 
   -- a mode that is told to fit no wish has no SPar(1), or lies in none
   pub no_fit : verdict mode ws ≡ 3 → Fitting mode ws → ⊥
-  no_fit e f = never (sym (only_no_fit (some_wish (fits_if_ready mode) ws) (some_wish (fits mode) ws) (sym told ∙ e)) ∙ one_some (fits mode) ws f.wish f.member (fits_there f))
+  no_fit e f = never (sym (only_no_fit (list_any (fits_if_ready mode) ws) (list_any (fits mode) ws) (sym told ∙ e)) ∙ one_some (fits mode) ws f.wish f.member (fits_there f))
 
   -- and one of which that holds is told so
   pub no_fits : (Fitting mode ws → ⊥) → verdict mode ws ≡ 3

@@ -1,230 +1,222 @@
--- The records of the wishes' run, one after the other: what stands at a place of the run, and what a walk over the records still owes.
+-- The records that the wishes' run begins with: each step of the iterator over them, and what is asked of them, as it is asked of the wishes.
 -- Assumes nothing.
 use Prim.Native.Nat.{ℕ, zero, suc, ◌+◌, ◌-◌, ◌≤◌, ◌<◌}
 use mathlib.Core.Bool.{Bool, true, false}
 use mathlib.Core.List.{List, [], ◌∷◌}
 use mathlib.Core.Path.{◌≡◌, refl, sym, ap, ◌∙◌}
 use native.Mathlib.Omega.{arith}
-use borrow.Author.Tests.{ltb-true, ltb-false, leb-true, le-leb, lt-leb}
-use lib.Dec.{ltb, leb, eqb}
-use lib.ListN.{length, get_or, take, drop, length-drop, drop_of_length-le}
-use lib.Seq.{drop-cons, drop-drop, length-take-le}
+use borrow.Author.Tests.{leb-true, le-leb, lt-leb, ne_eqb}
+use lib.Dec.{leb, eqb}
+use lib.ListN.{length, get_or, take, drop, length-drop}
+use lib.Seq.{length-take-le, take_all}
+use Rattle.std.specs.Prelude.{Option, Some, None, map, ◌&&◌, ◌||◌, cond}
+use Rattle.std.specs.List.{list_any, find, enumerate_from}
 use Rattle.octets.specs.Places.{pick, both}
 use Rattle.tree.specs.Fields.{all_in, has_spar}
-use Rattle.choice.specs.Wishes.{Wish, most_wishes, wishes_in, wishes_of, wish_codes}
-use Rattle.choice.specs.Choosing.{Far, suits, chosen, first_suiting}
+use Rattle.choice.specs.Wishes.{wishes_in, standard_codes}
+use Rattle.choice.specs.Choosing.{Far, suits, Choosing, chosen, refused, first_suiting}
 use Rattle.choice.specs.Judging.{fits_some, fits_ready}
-use Rattle.choice.specs.Inner.{wish_at, wish, Enters, records_by, EndsGood, fits_told}
-use Rattle.choice.specs.declared.Entry.{Entry}
-use Rattle.choice.specs.declared.Entry.TheVariants.{Record, Over}
-use Rattle.choice.specs.declared.Slot.{Slot}
+use Rattle.choice.specs.Inner.{Found, found_in, wish_of, records_by}
 use Rattle.choice.proofs.Truths.{both_false}
 
--- ---- what stands at a place
+-- ---- what stands at the front of a run
 
--- two octets and what is behind them
-two_octets : (run : List ℕ) (at : ℕ) → at + 2 ≤ length run → drop at run ≡ get_or run at 0 ∷ (get_or run (at + 1) 0 ∷ drop (at + 2) run)
-two_octets run at h =
-    let p : at < length run = omega arith in
-    let q : suc at < length run = omega arith in
-    let a : at + 1 ≡ suc at = omega arith in
-    let b : at + 2 ≡ suc (suc at) = omega arith in
-    rw (a, b, drop-cons run at 0 p) (ap (λ (l : List ℕ). get_or run at 0 ∷ l) (drop-cons run (suc at) 0 q))
+-- no record where none may follow, in fewer than two octets, or where the field is cut short
+pub found_none : (k : ℕ) (l : List ℕ) → k ≡ 0 → found_in k l ≡ []
+unfolding found_in
+found_none k l z = rw z
 
--- fewer than two octets hold no record
-pub none_short : (run : List ℕ) (at : ℕ) → length run - at < 2 → Enters run at Over
-unfolding wishes_in
-none_short run at h k = go (drop at run) (omega (arith, length-drop at run))
+pub found_short : (k : ℕ) (l : List ℕ) → length l < 2 → found_in k l ≡ []
+unfolding found_in
+found_short zero l h = refl
+found_short (suc k) [] h = refl
+found_short (suc k) (r ∷ []) h = refl
+found_short (suc k) (r ∷ (n ∷ l)) h = absurd (omega arith)
+
+pub found_cut : (k : ℕ) (l : List ℕ) → length (drop 2 l) < get_or l 1 0 → found_in k l ≡ []
+unfolding found_in
+found_cut zero l h = refl
+found_cut (suc k) [] h = refl
+found_cut (suc k) (r ∷ []) h = refl
+found_cut (suc k) (r ∷ (n ∷ l)) h = rw (lt-leb n (length l) h)
+
+-- else there is one, and those behind it
+pub found_next : (k : ℕ) (l : List ℕ) → (k ≡ 0 → ⊥) → 2 ≤ length l → get_or l 1 0 ≤ length (drop 2 l)
+    → found_in k l
+    ≡ record { flag = get_or l 0 0; field = take (get_or l 1 0) (drop 2 l); behind = drop (get_or l 1 0) (drop 2 l) } ∷ found_in (k - 1) (drop (get_or l 1 0) (drop 2 l))
+unfolding found_in
+found_next zero l z s h = absurd (z refl)
+found_next (suc k) [] z s h = absurd (omega arith)
+found_next (suc k) (r ∷ []) z s h = absurd (omega arith)
+found_next (suc k) (r ∷ (n ∷ l)) z s h = let d : suc k - 1 ≡ k = omega arith in rw (le-leb n (length l) h, d)
+
+-- in the words of the code: the length, and the octets behind it
+module _ (k : ℕ) (l : List ℕ) {size : ℕ} (s : size ≡ get_or l 1 0) (two : 2 ≤ length l) where
+  abbrev rest : List ℕ
+  rest = take (length l - 2) (drop 2 l)
+
+  rest_is : rest ≡ drop 2 l
+  rest_is = take_all (length l - 2) (drop 2 l) (omega (arith, length-drop 2 l))
+
+  pub found_over : length rest < size → found_in k l ≡ []
+  found_over h = found_cut k l (rw (s, rest_is) at h)
+
+  pub found_front : (k ≡ 0 → ⊥) → size ≤ length rest → {field behind : List ℕ} → field ≡ take size rest → behind ≡ drop size rest
+      → found_in k l ≡ record { flag = get_or l 0 0; field = field; behind = behind } ∷ found_in (k - 1) behind
+  found_front z h f b = rw (f, b, s, rest_is) (found_next k l z two (rw (s, rest_is) at h))
+
+-- the wishes are those of the records
+pub wishes_found : (k : ℕ) (l : List ℕ) → wishes_in k l ≡ map wish_of (found_in k l)
+unfolding wishes_in found_in
+wishes_found zero l = refl
+wishes_found (suc k) [] = refl
+wishes_found (suc k) (r ∷ []) = refl
+wishes_found (suc k) (r ∷ (n ∷ l)) = go (leb n (length l)) (wishes_found k (drop n l))
   where
-    go : (l : List ℕ) → length l < 2 → wishes_in (suc k) l ≡ []
-    go [] g = refl
-    go (r ∷ []) g = refl
-    go (r ∷ (n ∷ l)) g = absurd (omega arith)
+    x : Found
+    x = record { flag = r; field = take n l; behind = drop n l }
 
--- nor do octets that end before the field does
-pub none_cut : (run : List ℕ) (at : ℕ) → at + 2 ≤ length run → length run - (at + 2) < get_or run (at + 1) 0 → Enters run at Over
-unfolding wishes_in
-none_cut run at h g k = rw (two_octets run at h, lt-leb (get_or run (at + 1) 0) (length (drop (at + 2) run)) (omega (arith, length-drop (at + 2) run)))
+    go : (t : Bool) → wishes_in k (drop n l) ≡ map wish_of (found_in k (drop n l)) → pick t (wish_of x ∷ wishes_in k (drop n l)) [] ≡ map wish_of (pick t (x ∷ found_in k (drop n l)) [])
+    go true h = rw h
+    go false h = refl
 
--- where the field is all there, a record stands
-pub one_whole : (run : List ℕ) (at : ℕ) → at + 2 ≤ length run → get_or run (at + 1) 0 ≤ length run - (at + 2)
-    → Enters run at (Record (record { ready = eqb (get_or run at 0) 1; start = at + 2; end = at + 2 + get_or run (at + 1) 0 }))
-unfolding wishes_in
-one_whole run at h g =
-    let n = get_or run (at + 1) 0 in
-    let d : at + 2 + n - (at + 2) ≡ n = omega arith in
-    (λ k. rw (two_octets run at h, le-leb n (length (drop (at + 2) run)) (omega (arith, length-drop (at + 2) run)), drop-drop n (at + 2) run, d), refl, omega arith, omega arith)
-
--- at each place stands a record, or none that is whole
-pub entered : (run : List ℕ) (at : ℕ) → at ≤ length run → (e : Entry) × Enters run at e
-entered run at h = go (ltb (length run - at) 2) refl (ltb (length run - (at + 2)) (get_or run (at + 1) 0)) refl
-  where
-    go : (s : Bool) → ltb (length run - at) 2 ≡ s → (t : Bool) → ltb (length run - (at + 2)) (get_or run (at + 1) 0) ≡ t → (e : Entry) × Enters run at e
-    go true p t q = (Over, none_short run at (ltb-true (length run - at) 2 p))
-    go false p true q =
-        (Over, none_cut run at (omega (arith, ltb-false (length run - at) 2 p)) (ltb-true (length run - (at + 2)) (get_or run (at + 1) 0) q))
-    go false p false q = (
-      Record (record { ready = eqb (get_or run at 0) 1; start = at + 2; end = at + 2 + get_or run (at + 1) 0 }),
-      one_whole run at (omega (arith, ltb-false (length run - at) 2 p)) (ltb-false (length run - (at + 2)) (get_or run (at + 1) 0) q),
-    )
-
--- the length of a record is that of the wish that is read from it
-whole_size : (n m : ℕ) (l : List ℕ) (a b : Bool) (ws vs : List Wish) → m ≤ length l
-    → pick (leb n (length l)) (wish a (take n l) ∷ ws) [] ≡ wish b (take m l) ∷ vs → n ≡ m
-whole_size n m l a b ws vs h = go (leb n (length l)) refl
-  where
-    front : List Wish → ℕ
-    front [] = 0
-    front (w ∷ us) = length w.field
-
-    go : (t : Bool) → leb n (length l) ≡ t → pick t (wish a (take n l) ∷ ws) [] ≡ wish b (take m l) ∷ vs → n ≡ m
-    go true p q = omega (arith, length-take-le n l (leb-true n (length l) p), length-take-le m l h, ap front q)
-    go false p q = absurd (omega (arith, ap length q))
-
--- the octets of a record that stands there: its flag, its length, and its field
-pub record_octets : (run : List ℕ) (at : ℕ) (x : Slot) → Enters run at (Record x)
-    → drop at run ≡ get_or run at 0 ∷ ((x.end - x.start) ∷ drop x.start run)
-unfolding wishes_in
-record_octets run at x e =
-    let b : at + 2 ≤ length run = omega (arith, e.1, e.2, e.3) in
-    let n = get_or run (at + 1) 0 in
-    let s : n ≡ x.end - x.start =
-    whole_size n (x.end - x.start) (drop x.start run) _ _ _ _ (omega (arith, length-drop x.start run, e.3))
-    (rw (two_octets run at b, sym e.1) at (e.0 zero)) in
-    two_octets run at b ∙ rw (sym e.1, s)
-
--- ---- records whose fields pass a test
+-- ---- good records
 
 module _ (F : List ℕ → Bool) where
-  -- a record whose flag is above 1 is not good
-  pub flag_bad : (run : List ℕ) (at : ℕ) → at < length run → 1 < get_or run at 0 → EndsGood F run at 0
-  unfolding records_by
-  flag_bad run at h g k = rw (drop-cons run at 0 h) (go (drop (suc at) run))
+  -- the first of some records is as good as its flag, its field, and what is behind it
+  pub first_good : (k : ℕ) (l : List ℕ) (x : Found) (xs : List Found) → found_in k l ≡ x ∷ xs
+      → (j : ℕ) × (xs ≡ found_in j x.behind) × (records_by F k l ≡ both (both (leb x.flag 1) (F x.field)) (records_by F j x.behind))
+  unfolding found_in records_by
+  first_good zero l x xs e = cc
+  first_good (suc k) [] x xs e = cc
+  first_good (suc k) (r ∷ []) x xs e = cc
+  first_good (suc k) (r ∷ (n ∷ l)) x xs e = go (leb n (length l)) e
     where
-      go : (l : List ℕ) → records_by F (suc k) (get_or run at 0 ∷ l) ≡ false
-      go [] = refl
-      go (n ∷ l) = rw (lt-leb (get_or run at 0) 1 g)
+      y : Found
+      y = record { flag = r; field = take n l; behind = drop n l }
 
-  -- nor is one that is cut short
-  pub cut_bad : (run : List ℕ) (at : ℕ) → at < length run → Enters run at Over → EndsGood F run at 0
-  unfolding wishes_in records_by
-  cut_bad run at h e k = go (drop at run) (omega (arith, length-drop at run)) (e zero)
+      turn : (a b c : Bool) → both a (both true (both b c)) ≡ both (both a b) c
+      turn true b c = refl
+      turn false b c = refl
+
+      go : (t : Bool) → pick t (y ∷ found_in k (drop n l)) [] ≡ x ∷ xs
+          → (j : ℕ) × (xs ≡ found_in j x.behind) × (both (leb r 1) (both t (both (F (take n l)) (records_by F k (drop n l)))) ≡ both (both (leb x.flag 1) (F x.field)) (records_by F j x.behind))
+      go true h =
+          let p : x ≡ y = cc in
+          let q : xs ≡ found_in k (drop n l) = cc in
+          (k, rw p q, rw p (turn (leb r 1) (F (take n l)) (records_by F k (drop n l))))
+      go false h = cc
+
+  -- where there is none, only no octets are good
+  pub none_good : (k : ℕ) (l : List ℕ) → found_in k l ≡ [] → records_by F k l ≡ eqb (length l) 0
+  unfolding found_in records_by
+  none_good zero [] e = refl
+  none_good zero (r ∷ l) e = sym (ne_eqb (length (r ∷ l)) 0 (omega arith))
+  none_good (suc k) [] e = refl
+  none_good (suc k) (r ∷ []) e = sym (ne_eqb (length (r ∷ [])) 0 (omega arith))
+  none_good (suc k) (r ∷ (n ∷ l)) e = go (leb n (length l)) e ∙ sym (ne_eqb (length (r ∷ (n ∷ l))) 0 (omega arith))
     where
-      cut : (r n : ℕ) (l : List ℕ) (t : Bool) → pick t (wish (eqb r 1) (take n l) ∷ []) [] ≡ []
+      go : (t : Bool) → pick t (record { flag = r; field = take n l; behind = drop n l } ∷ found_in k (drop n l)) [] ≡ []
           → both (leb r 1) (both t (both (F (take n l)) (records_by F k (drop n l)))) ≡ false
-      cut r n l true q = absurd (omega (arith, ap length q))
-      cut r n l false q = both_false (leb r 1)
+      go true h = cc
+      go false h = both_false (leb r 1)
 
-      go : (l : List ℕ) → 0 < length l → wishes_in (suc zero) l ≡ [] → records_by F (suc k) l ≡ false
-      go [] g q = absurd (omega arith)
-      go (r ∷ []) g q = refl
-      go (r ∷ (n ∷ l)) g q = cut r n l (leb n (length l)) q
+-- ---- what is asked of the wishes
 
-  -- one whose flag is 0 or 1 is as good as its field and what is behind it
-  judged : (run : List ℕ) (at : ℕ) (x : Slot) → get_or run at 0 ≤ 1 → Enters run at (Record x) → (k : ℕ)
-      → records_by F (suc k) (drop at run) ≡ both (F (wish_at run x).field) (records_by F k (drop x.end run))
-  unfolding records_by
-  judged run at x g e k =
-      let m : x.start + (x.end - x.start) ≡ x.end = omega (arith, e.2) in
-      let f : leb (x.end - x.start) (length (drop x.start run)) ≡ true =
-      le-leb (x.end - x.start) (length (drop x.start run)) (omega (arith, length-drop x.start run, e.3)) in
-      rw (record_octets run at x e, le-leb (get_or run at 0) 1 g, f, drop-drop (x.end - x.start) x.start run, m)
-
-  -- so with a field that is not good it is not
-  pub field_bad : (run : List ℕ) (at : ℕ) (x : Slot) → get_or run at 0 ≤ 1 → Enters run at (Record x) → F (wish_at run x).field ≡ false → EndsGood F run at 0
-  field_bad run at x g e w k = judged run at x g e k ∙ rw w
-
-  -- and with a good one it is
-  pub record_good : (run : List ℕ) (at : ℕ) (x : Slot) → get_or run at 0 ≤ 1 → Enters run at (Record x) → F (wish_at run x).field ≡ true → EndsGood F run at x.end
-  record_good run at x g e w = go x.end refl
+-- a mode that has an SPar(1) fits one that is ready, or any
+module _ (mode : List ℕ) (h : has_spar mode ≡ true) where
+  pub any_ready : (xs : List Found) → list_any (λ x. eqb x.flag 1 && all_in mode (standard_codes x.field)) xs ≡ fits_ready mode (map wish_of xs)
+  unfolding fits_ready
+  any_ready [] = refl
+  any_ready (x ∷ xs) = rw (h, any_ready xs) (go (eqb x.flag 1) (all_in mode (standard_codes x.field)) (fits_ready mode (map wish_of xs)))
     where
-      go : (m : ℕ) → x.end ≡ m → EndsGood F run at m
-      go zero p = absurd (omega (arith, e.1, e.2))
-      go (suc m) p = (λ k. judged run at x g e k ∙ rw (w, p), omega (arith, e.1, e.2), omega (arith, e.3))
+      go : (a b c : Bool) → (a && b) || c ≡ pick (both a b) true c
+      go true true c = refl
+      go true false c = refl
+      go false b c = refl
 
-  -- ---- a walk that looks whether all are such
-
-  -- the records from a place on, of which so many may be left, decide
-  pub record Checks (run : List ℕ) (left at : ℕ) : Type 0 where
-    pub within : at ≤ length run
-    pub same : records_by F left (drop at run) ≡ records_by F most_wishes run
-
-  -- a record when none may follow is one too many
-  pub one_too_many : (run : List ℕ) (left at : ℕ) → Checks run left at → at < length run → left ≡ 0 → false ≡ records_by F most_wishes run
-  unfolding records_by
-  one_too_many run left at c h z = (rw (z, drop-cons run at 0 h) at c.same)
-
-  -- a record that is not good decides
-  pub bad_decides : (run : List ℕ) (left at r : ℕ) → Checks run left at → 0 < left → EndsGood F run at r → r ≡ 0 → false ≡ records_by F most_wishes run
-  bad_decides run zero at r c h e z = absurd (omega arith)
-  bad_decides run (suc k) at zero c h e z = sym (e k) ∙ c.same
-  bad_decides run (suc k) at (suc r) c h e z = absurd (omega arith)
-
-  -- behind a good one the walk goes on
-  pub good_passes : (run : List ℕ) (left at r : ℕ) → Checks run left at → 0 < left → EndsGood F run at r → (r ≡ 0 → ⊥) → Checks run (left - 1) r
-  good_passes run zero at r c h e z = absurd (omega arith)
-  good_passes run (suc k) at zero c h e z = absurd (z refl)
-  good_passes run (suc k) at (suc r) c h e z =
-      let d : suc k - 1 ≡ k = omega arith in
-      record { within = e.2; same = rw d (sym (e.0 k) ∙ c.same) }
-
-  -- and at the end of the run they all were good
-  pub all_good : (run : List ℕ) (left at : ℕ) → Checks run left at → length run ≤ at → true ≡ records_by F most_wishes run
-  unfolding records_by
-  all_good run left at c h = sym (none left) ∙ (rw (drop_of_length-le run {i = at} h) at c.same)
+  pub any_fits : (xs : List Found) → list_any (λ x. all_in mode (standard_codes x.field)) xs ≡ fits_some mode (map wish_of xs)
+  unfolding fits_some
+  any_fits [] = refl
+  any_fits (x ∷ xs) = rw (h, any_fits xs) (go (all_in mode (standard_codes x.field)) (fits_some mode (map wish_of xs)))
     where
-      none : (k : ℕ) → records_by F k [] ≡ true
-      none zero = refl
-      none (suc k) = refl
+      go : (a b : Bool) → a || b ≡ pick a true b
+      go true b = refl
+      go false b = refl
 
--- ---- a walk that asks something of the wishes
+-- the record that was found, behind so many, in so many octets, as a choice
+abbrev pub found_told : ℕ → Option (ℕ × Found) → Choosing
+found_told total None = refused 11
+found_told total (Some (n, x)) = chosen (record { number = n + 1; at = total - length x.behind - length x.field; length = length x.field })
 
--- what is asked of the wishes from a place on, of which so many may be left, has the answer that is owed
-pub record Walks {A : Type 0} (run : List ℕ) (left at : ℕ) (F : List Wish → A) (answer : A) : Type 0 where
-  pub within : at ≤ length run
-  pub same : F (wishes_in left (drop at run)) ≡ answer
+-- the choice is the first that suits
+pub first_found : (own : List ℕ) (far : Far) (total k : ℕ) (l : List ℕ) (n at : ℕ) → at + length l ≡ total
+    → found_told total (find (λ p. suits own far (wish_of p.1)) (enumerate_from n (found_in k l))) ≡ first_suiting own far (wishes_in k l) n at
+unfolding found_in wishes_in first_suiting
+first_found own far total zero l n at h = refl
+first_found own far total (suc k) [] n at h = refl
+first_found own far total (suc k) (r ∷ []) n at h = refl
+first_found own far total (suc k) (r ∷ (m ∷ l)) n at h =
+    go (λ i a e. first_found own far total k (drop m l) i a e) (leb m (length l)) refl
+  where
+    x : Found
+    x = record { flag = r; field = take m l; behind = drop m l }
 
--- at the front of the run it is what is asked of all
-pub walk_start : {A : Type 0} (run : List ℕ) (F : List Wish → A) → Walks run most_wishes 0 F (F (wishes_of run))
-walk_start run F = record { within = omega arith; same = refl }
+    Others : Type 0
+    Others = (i a : ℕ) → a + length (drop m l) ≡ total
+        → found_told total (find (λ p. suits own far (wish_of p.1)) (enumerate_from i (found_in k (drop m l)))) ≡ first_suiting own far (wishes_in k (drop m l)) i a
 
-module _ {A : Type 0} (run : List ℕ) (left at : ℕ) (F : List Wish → A) (answer : A) (w : Walks run left at F answer) where
-  -- where none may be left, or none stands, it is what is asked of none
-  pub walk_spent : left ≤ 0 → F [] ≡ answer
-  unfolding wishes_in
-  walk_spent h = let z : left ≡ 0 = omega arith in rw z at w.same
+    here : Others → (t : Bool) → m ≤ length l
+        → found_told total (cond t (Some (n, x)) (find (λ p. suits own far (wish_of p.1)) (enumerate_from (n + 1) (found_in k (drop m l)))))
+        ≡ pick t (chosen (record { number = n + 1; at = at + 2; length = length (take m l) })) (first_suiting own far (wishes_in k (drop m l)) (n + 1) (at + 2 + length (take m l)))
+    here others true g =
+        let p : total - length (drop m l) - length (take m l) ≡ at + 2 = omega (arith, length-drop m l, length-take-le m l g, h) in
+        rw p
+    here others false g = others (n + 1) (at + 2 + length (take m l)) (omega (arith, length-drop m l, length-take-le m l g, h))
 
-  pub walk_over : 0 < left → Enters run at Over → F [] ≡ answer
-  walk_over h e = let z : left ≡ suc (left - 1) = omega arith in sym (ap F (e (left - 1))) ∙ (rw z at w.same)
+    go : Others → (t : Bool) → leb m (length l) ≡ t
+        → found_told total (find (λ p. suits own far (wish_of p.1)) (enumerate_from n (pick t (x ∷ found_in k (drop m l)) [])))
+        ≡ first_suiting own far (pick t (wish_of x ∷ wishes_in k (drop m l)) []) n at
+    go others true e = here others (suits own far (wish_of x)) (leb-true m (length l) e)
+    go others false e = refl
 
-  -- where a record stands it is asked of that wish and of those behind it
-  walk_record : (x : Slot) → 0 < left → Enters run at (Record x) → F (wish_at run x ∷ wishes_in (left - 1) (drop x.end run)) ≡ answer
-  walk_record x h e = let z : left ≡ suc (left - 1) = omega arith in sym (ap F (e.0 (left - 1))) ∙ (rw z at w.same)
+-- no more are found than may be
+pub found_few : (k : ℕ) (l : List ℕ) → length (found_in k l) ≤ k
+unfolding found_in
+found_few zero l = omega arith
+found_few (suc k) [] = omega arith
+found_few (suc k) (r ∷ []) = omega arith
+found_few (suc k) (r ∷ (n ∷ l)) = go (leb n (length l)) (found_few k (drop n l))
+  where
+    go : (t : Bool) → length (found_in k (drop n l)) ≤ k → length (pick t (record { flag = r; field = take n l; behind = drop n l } ∷ found_in k (drop n l)) []) ≤ suc k
+    go true h = omega arith
+    go false h = omega arith
 
-  -- and that wish may decide alone
-  pub walk_settled : (x : Slot) (a : A) → 0 < left → Enters run at (Record x) → ((ws : List Wish) → F (wish_at run x ∷ ws) ≡ a) → a ≡ answer
-  walk_settled x a h e f = sym (f (wishes_in (left - 1) (drop x.end run))) ∙ walk_record x h e
+-- and each lies in the run
+abbrev found_or : Found → Option (ℕ × Found) → Found
+found_or y None = y
+found_or y (Some p) = p.1
 
-  -- or leave something to be asked of the others
-  pub walk_on : (x : Slot) (G : List Wish → A) → 0 < left → Enters run at (Record x) → ((ws : List Wish) → F (wish_at run x ∷ ws) ≡ G ws) → Walks run (left - 1) x.end G answer
-  walk_on x G h e f = record { within = e.3; same = sym (f (wishes_in (left - 1) (drop x.end run))) ∙ walk_record x h e }
+pub found_fits : (test : ℕ × Found → Bool) (k : ℕ) (l : List ℕ) (n i : ℕ) (x : Found) → find test (enumerate_from n (found_in k l)) ≡ Some (i, x)
+    → length x.behind + length x.field ≤ length l
+unfolding found_in
+found_fits test zero l n i x e = cc
+found_fits test (suc k) [] n i x e = cc
+found_fits test (suc k) (r ∷ []) n i x e = cc
+found_fits test (suc k) (r ∷ (m ∷ l)) n i x e = go (λ d. found_fits test k (drop m l) (n + 1) i x d) (leb m (length l)) refl e
+  where
+    y : Found
+    y = record { flag = r; field = take m l; behind = drop m l }
 
--- ---- what one wish adds to each question
+    Others : Type 0
+    Others = find test (enumerate_from (n + 1) (found_in k (drop m l))) ≡ Some (i, x) → length x.behind + length x.field ≤ length (drop m l)
 
--- the choice: this wish, or the first of the others
-pub choice_step : (own : List ℕ) (far : Far) (run : List ℕ) (at n : ℕ) (x : Slot) → Enters run at (Record x) → (ws : List Wish)
-    → first_suiting own far (wish_at run x ∷ ws) n at
-    ≡ pick (suits own far (wish_at run x)) (chosen (record { number = n + 1; at = x.start; length = x.end - x.start })) (first_suiting own far ws (n + 1) x.end)
-unfolding first_suiting
-choice_step own far run at n x e ws =
-    let f : length (take (x.end - x.start) (drop x.start run)) ≡ x.end - x.start =
-    length-take-le (x.end - x.start) (drop x.start run) (omega (arith, length-drop x.start run, e.3)) in
-    let g : x.start + (x.end - x.start) ≡ x.end = omega (arith, e.2) in
-    rw (f, sym e.1, g)
+    here : Others → (t : Bool) → m ≤ length l → cond t (Some (n, y)) (find test (enumerate_from (n + 1) (found_in k (drop m l)))) ≡ Some (i, x) → length x.behind + length x.field ≤ length (r ∷ (m ∷ l))
+    here others true g h =
+        let p : y ≡ x = ap (found_or y) h in
+        rw (← p) (omega (arith, length-drop m l, length-take-le m l g))
+    here others false g h = omega (arith, others h, length-drop m l)
 
--- a mode that has an SPar(1) fits: this wish, if it counts, or one of the others
-pub fits_step : (anyway : Bool) (mode : List ℕ) (w : Wish) → has_spar mode ≡ true → (ws : List Wish)
-    → fits_told anyway mode (w ∷ ws) ≡ pick (both (pick anyway true w.ready) (all_in mode (wish_codes w))) true (fits_told anyway mode ws)
-unfolding fits_some fits_ready
-fits_step true mode w h ws = rw h
-fits_step false mode w h ws = rw h
+    go : Others → (t : Bool) → leb m (length l) ≡ t → find test (enumerate_from n (pick t (y ∷ found_in k (drop m l)) [])) ≡ Some (i, x) → length x.behind + length x.field ≤ length (r ∷ (m ∷ l))
+    go others true g h = here others (test (n, y)) (leb-true m (length l) g) h
+    go others false g h = cc

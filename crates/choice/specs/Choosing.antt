@@ -1,15 +1,13 @@
 -- To be believed: the choice (RULES, Own table, wishes, choice), which is the first ready wish that is common; with no far list
 -- the first ready wish.
 -- Assumes nothing.
-use Rattle.std.specs.Prelude.{ℕ, ◌+◌, ◌≤◌, Bool, true, false, ◌≡◌, length, take, drop}
+use Rattle.std.specs.Prelude.{ℕ, ◌+◌, ◌≤◌, Bool, true, false, ◌≡◌, length, take, drop, Option, Some, None}
 use mathlib.Core.List.{List, [], ◌∷◌, ◌++◌, Memᴰ}
 use Rattle.octets.specs.Places.{pick, both}
 use Rattle.tree.specs.Fields.{all_in}
 use Rattle.tree.specs.Wide.{codes_wide}
 use Rattle.tree.specs.declared.Field.TheVariants.{Standard}
 use Rattle.choice.specs.Wishes.{Wish, most_wishes, wishes_of, wish_codes}
-use Rattle.choice.specs.declared.Choice.{Choice}
-use Rattle.choice.specs.declared.Choice.TheVariants.{Chosen, NoChoice}
 use Rattle.choice.specs.declared.Pick.{Pick}
 
 -- what is common: all parameters of a wish are in both the own table's codes and the far list's
@@ -32,9 +30,9 @@ pub data Choosing : Type 0 where
   refused : ℕ → Choosing
 
 -- each answer's number and values: 11, where there is no choice
-abbrev pub choice_told : Choice → Choosing
-choice_told (Chosen p) = chosen p
-choice_told NoChoice = refused 11
+abbrev pub choice_told : Option Pick → Choosing
+choice_told (Some p) = chosen p
+choice_told None = refused 11
 
 -- the first of the wishes that may be proposed: its number, counted on from n, and where its field lies; the first record is at a place
 unfoldable pub first_suiting : List ℕ → Far → List Wish → ℕ → ℕ → Choosing

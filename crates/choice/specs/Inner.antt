@@ -1,28 +1,42 @@
--- Inner: the records of the wishes at a place of their run, and small words of the inner functions.
+-- Inner: the wishes as records of their run, and small words of the inner functions.
 -- Assumes nothing.
-use Rattle.std.specs.Prelude.{ℕ, zero, suc, ◌+◌, ◌-◌, ◌≤◌, Bool, true, false, List, [], ◌∷◌, ◌≡◌, leb, length, take, drop}
+use Rattle.std.specs.Prelude.{ℕ, zero, suc, Bool, true, false, List, [], ◌∷◌, leb, eqb, length, take, drop, Option, Some, None}
 use Rattle.octets.specs.Places.{pick, both}
 use Rattle.tree.specs.Fields.{has_spar}
-use Rattle.choice.specs.Wishes.{Wish, wishes_in, standard_codes}
+use Rattle.choice.specs.Wishes.{Wish, standard_codes}
 use Rattle.good.specs.Goodness.{good_in}
 use Rattle.choice.specs.Choosing.{Far, unheard, far_codes}
-use Rattle.choice.specs.Judging.{fits_some, fits_ready}
-use Rattle.choice.specs.declared.Slot.{Slot}
-use Rattle.choice.specs.declared.Entry.{Entry}
-use Rattle.choice.specs.declared.Entry.TheVariants.{Record, Over}
+use Rattle.choice.specs.declared.FarList.{FarList}
+use Rattle.choice.specs.declared.wishes.Record.{Record}
+use Rattle.choice.specs.declared.wishes.Records.{Records}
 
--- the wish of a record that was found
-abbrev pub wish_at : List ℕ → Slot → Wish
-wish_at run x = record { ready = x.ready; field = take (x.end - x.start) (drop x.start run) }
+-- ---- the records of a run
 
--- the record at a place, and where the next begins; or that there is none
-abbrev pub Enters : List ℕ → ℕ → Entry → Type 0
-Enters run at (Record x) =
-    ((k : ℕ) → wishes_in (suc k) (drop at run) ≡ wish_at run x ∷ wishes_in k (drop x.end run))
-    × (x.start ≡ at + 2)
-    × (x.start ≤ x.end)
-    × (x.end ≤ length run)
-Enters run at Over = (k : ℕ) → wishes_in (suc k) (drop at run) ≡ []
+-- a record: its flag, its field, and what is behind it
+pub record Found : Type 0 where
+  pub flag : ℕ
+  pub field : List ℕ
+  pub behind : List ℕ
+
+-- the records that a run begins with, k of them at most, up to the first that is cut short
+unfoldable pub found_in : ℕ → List ℕ → List Found
+found_in zero run = []
+found_in (suc k) [] = []
+found_in (suc k) (r ∷ []) = []
+found_in (suc k) (r ∷ (n ∷ rest)) =
+    pick (leb n (length rest)) (record { flag = r; field = take n rest; behind = drop n rest } ∷ found_in k (drop n rest)) []
+
+-- the one that the code has, those that its iterator has left, and the wish that one is
+abbrev pub found_of : Record → Found
+found_of x = record { flag = x.flag; field = x.field.now; behind = x.behind.now }
+
+abbrev pub found_left : Records → List Found
+found_left s = found_in s.left s.rest.now
+
+abbrev pub wish_of : Found → Wish
+wish_of x = record { ready = eqb x.flag 1; field = x.field }
+
+-- ---- good records
 
 -- a wish's field by some names: good, with an SPar(1)
 abbrev pub wish_in : List ℕ → List ℕ → Bool
@@ -40,19 +54,9 @@ records_by F (suc k) (r ∷ (n ∷ rest)) =
     (both (F (take n rest))
     (records_by F k (drop n rest))))
 
--- the place behind such a record at a place, or 0 where it is cut short or does not pass
-abbrev pub EndsGood : (List ℕ → Bool) → List ℕ → ℕ → ℕ → Type 0
-EndsGood F run at zero = (k : ℕ) → records_by F (suc k) (drop at run) ≡ false
-EndsGood F run at (suc e) =
-    ((k : ℕ) → records_by F (suc k) (drop at run) ≡ records_by F k (drop (suc e) run)) × (at ≤ e) × (suc e ≤ length run)
+-- ---- the far list
 
-abbrev pub wish : Bool → List ℕ → Wish
-wish ready octets = record { ready = ready; field = octets }
-
--- a mode fits some wish, or some ready one
-abbrev pub fits_told : Bool → List ℕ → List Wish → Bool
-fits_told anyway mode ws = pick anyway (fits_some mode ws) (fits_ready mode ws)
-
--- the far list at a place of its octets, where one was heard
-abbrev pub far_told : Bool → List ℕ → ℕ → Far
-far_told known far place = pick known (far_codes far place) unheard
+-- the far list of the code, or none, by its codes
+abbrev pub far_told : Option FarList → Far
+far_told (Some far) = far_codes far.octets.now far.place
+far_told None = unheard

@@ -2,13 +2,13 @@
 -- SPar(1) and all its standard parameters lie there. It is accepted if it fits a ready wish; NAK(2) if it fits only wishes not ready; else
 -- NAK(3).
 -- Assumes nothing.
-use Rattle.std.specs.Prelude.{ℕ, Bool, true, false, ◌≡◌}
+use Rattle.std.specs.Prelude.{ℕ, Bool, true, false, ◌≡◌, Result, Ok, Err}
 use mathlib.Core.List.{List, [], ◌∷◌, Memᴰ}
 use Rattle.octets.specs.Places.{pick, both}
 use Rattle.tree.specs.Fields.{all_in, has_spar}
 use Rattle.choice.specs.Wishes.{Wish, wish_codes}
-use Rattle.choice.specs.declared.Verdict.{Verdict}
-use Rattle.choice.specs.declared.Verdict.TheVariants.{Accepted, NotReady, NoFit}
+use Rattle.choice.specs.declared.ModeRefusal.{ModeRefusal}
+use Rattle.choice.specs.declared.ModeRefusal.TheVariants.{NotReady, NoFit}
 
 -- the mode's codes fit a wish
 abbrev pub fits : List ℕ → Wish → Bool
@@ -28,10 +28,10 @@ unfoldable pub verdict : List ℕ → List Wish → ℕ
 verdict mode ws = pick (fits_ready mode ws) 0 (pick (fits_some mode ws) 2 3)
 
 -- what each answer stands for: accepted, NAK(2), NAK(3)
-abbrev pub nak_of : Verdict → ℕ
-nak_of Accepted = 0
-nak_of NotReady = 2
-nak_of NoFit = 3
+abbrev pub nak_of : Result (Unit {0}) ModeRefusal → ℕ
+nak_of (Ok _) = 0
+nak_of (Err NotReady) = 2
+nak_of (Err NoFit) = 3
 
 -- a mode fits one of the wishes: it has an SPar(1), and all its codes lie there
 pub record Fitting (mode : List ℕ) (ws : List Wish) : Type 0 where

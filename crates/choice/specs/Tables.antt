@@ -1,12 +1,12 @@
 -- To be believed: the own table and the wishes as they are lent for a step, refusals 2, 3 and 4 of the rules.
 -- Assumes nothing.
-use Rattle.std.specs.Prelude.{ℕ, Bool, true, not, List, [], ◌∷◌}
+use Rattle.std.specs.Prelude.{ℕ, Bool, true, not, List, [], ◌∷◌, Result, Ok, Err}
 use Rattle.octets.specs.Places.{pick, both}
 use Rattle.tree.specs.Fields.{all_in}
 use Rattle.good.specs.Good.{good_field}
 use Rattle.choice.specs.Wishes.{Wish, wishes_of, standard_codes, wish_codes, good_wishes}
-use Rattle.choice.specs.declared.Tables.{Tables}
-use Rattle.choice.specs.declared.Tables.TheVariants.{Good, BadOwn, BadWishes, Outside}
+use Rattle.choice.specs.declared.TablesRefusal.{TablesRefusal}
+use Rattle.choice.specs.declared.TablesRefusal.TheVariants.{BadOwn, BadWishes, Outside}
 
 -- the own table: a standard field in minimal form, at most 61 octets, named parameters only and no non-standard bit
 abbrev pub good_own : List ℕ → Bool
@@ -26,8 +26,8 @@ tables_no own run =
     0))
 
 -- each answer's number
-abbrev pub tables_told : Tables → ℕ
-tables_told Good = 0
-tables_told BadOwn = 2
-tables_told BadWishes = 3
-tables_told Outside = 4
+abbrev pub tables_told : Result (Unit {0}) TablesRefusal → ℕ
+tables_told (Ok _) = 0
+tables_told (Err BadOwn) = 2
+tables_told (Err BadWishes) = 3
+tables_told (Err Outside) = 4

@@ -2,7 +2,9 @@
 -- Assumes nothing.
 use Prim.Native.Nat.{ℕ}
 use mathlib.Core.List.{List, []}
-use mathlib.Core.Path.{◌≡◌}
+use mathlib.Core.Path.{◌≡◌, refl, sym, ap, ◌∙◌}
+use native.Mathlib.Omega.{arith}
+use Rattle.std.specs.Prelude.{Some, None}
 use lib.ListN.{length}
 use Rattle.octets.proofs.Unique as unique
 use Rattle.frame.specs.Reader.{read_frame}
@@ -12,7 +14,7 @@ use Rattle.exact.proofs.WriterUnique as frameWriting
 use Rattle.message.proofs.Unique as messageReading
 use Rattle.meaning.specs.Writing.{write_message}
 use Rattle.writer.proofs.WriterUnique as messageWriting
-use Rattle.strike.proofs.StrikingUnique.{strike_unique, rewrite_unique, strike_refusal_writes_nothing, rewrite_refusal_writes_nothing}
+use Rattle.strike.proofs.StrikingUnique.{strike_unique, strike_from_unique, rewrite_unique, strike_refusal_writes_nothing, rewrite_refusal_writes_nothing}
 use Rattle.tree.specs.Fields.{codes_in}
 use Rattle.tree.specs.declared.Field.TheVariants.{Standard}
 use Rattle.choice.specs.Wishes.{wishes_of, standard_codes}
@@ -21,16 +23,24 @@ use Rattle.choice.proofs.ChoiceUnique.{tables_unique, choice_unique, verdict_uni
 use Rattle.table.specs.declared.Settings.{Settings}
 use Rattle.station.specs.Stepping.{step_of}
 use Rattle.station.specs.declared.Event.{Event}
-use Rattle.station.proofs.StepUnique.{step_unique}
+use Rattle.station.proofs.StepUnique.{refusal_unique, step_unique}
 use Rattle.chip.proofs.ChipUnique.{frame_read_unique, frame_write_unique, message_read_unique}
 use Rattle.demands.specs.Given.{Given}
-use Rattle.demands.specs.DemandOne.{OneReply, DemandOne}
+use Rattle.tree.specs.Promises.{GivesPositions}
+use Rattle.demands.specs.DemandOne.{OneReply, OneContent, DemandOne}
 use Rattle.demands.proofs.StepLines.{refusal_keeps_output, refusal_keeps_store}
 use Rattle.demands.proofs.Trips.{returns_unique}
 
 -- a reply that is fixed by an equation
 by_equation : {A : Type 0} {x : A} → OneReply (λ r. r ≡ x)
 by_equation r r' e e' = unique.one_reply e e'
+
+-- the first position that is left, and those behind it
+first_only : (s : List ℕ) → OneContent (GivesPositions s)
+first_only s None None t t' a b = (refl, a.1 ∙ sym b.1)
+first_only s None (Some y) t t' a b = let n = a.0 in let z : ◌≡◌ {A = ℕ} 0 1 = cc in absurd (omega arith)
+first_only s (Some x) None t t' a b = let n = b.0 in let z : ◌≡◌ {A = ℕ} 0 1 = cc in absurd (omega arith)
+first_only s (Some x) (Some y) t t' a b = let first : x ≡ y = cc in let rest : t ≡ t' = cc in (ap Some first, rest)
 
 -- what a call of `step` is given
 abbrev called : Settings → List ℕ → List ℕ → Event → List ℕ → ℕ → List ℕ → List ℕ → Given
@@ -53,6 +63,10 @@ demand_one =
       fcs_of = λ run. by_equation;
       read_frame = λ run count out. frameReading.read_unique (read_frame run count (length out)) out;
       write_frame = λ info opening closing out. frameWriting.write_unique (write_frame info opening closing (length out)) out;
+      width = λ level. by_equation;
+      mark = λ level. by_equation;
+      positions = λ s at level. by_equation;
+      next_position = first_only;
       bit8 = λ s e. by_equation;
       mark_last = λ out e. by_equation;
       is_fine = λ form. by_equation;
@@ -69,6 +83,8 @@ demand_one =
       has_first = λ s at field q. by_equation;
       lies_within = λ s i t j field. by_equation;
       lies_within_far = λ s i t j field. by_equation;
+      message_type_of = messageReading.type_unique;
+      read_refusal_of = messageReading.refusal_unique;
       is_known = λ kind. by_equation;
       has_fields = λ kind. by_equation;
       ns_form = λ s start. by_equation;
@@ -81,6 +97,7 @@ demand_one =
       spar_places = λ keep under. by_equation;
       is_good = λ t. by_equation;
       rewrite_field = λ s at field keep out. rewrite_unique keep field s at out;
+      strike_refusal_of = strike_from_unique;
       strike_message = strike_unique;
       check_tables = tables_unique;
       first_ready = λ run. choice_unique [] unheard run;
@@ -92,6 +109,7 @@ demand_one =
       is_over = λ kind. by_equation;
       act_of = λ kind set asked heard. by_equation;
       begin = λ time. by_equation;
+      step_refusal_of = refusal_unique;
       step = λ state set own run event m time out store. step_unique (step_of state.phase set own run event m time (length out) (length store)) out store;
       exported_read_frame = λ run bits out. frame_read_unique run bits out;
       exported_write_frame = λ information opening closing out. frame_write_unique information opening closing out;

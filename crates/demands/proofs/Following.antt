@@ -17,8 +17,9 @@ use Rattle.choice.specs.Choosing.{Far, unheard, heard, Choosing, chosen, refused
 use Rattle.choice.specs.Judging.{verdict}
 use Rattle.choice.specs.Tables.{all_inside, tables_no, tables_told}
 use Rattle.choice.specs.declared.Pick.{Pick}
-use Rattle.choice.specs.declared.Tables.{Tables}
-use Rattle.choice.specs.declared.Tables.TheVariants as found
+use Rattle.std.specs.Prelude.{Result, Ok, Err}
+use Rattle.choice.specs.declared.TablesRefusal.{TablesRefusal}
+use Rattle.choice.specs.declared.TablesRefusal.TheVariants as found
 use Rattle.choice.proofs.Truths.{never}
 use Rattle.table.specs.declared.Phase.{Phase}
 use Rattle.table.specs.declared.Phase.TheVariants.{Initial}
@@ -81,25 +82,25 @@ module _ (p : Phase) (g : Given) where
   refuses_1_store r h k = live_checked r ∙ small_store p g.settings g.own g.wishes g.event g.field g.time g.out_size g.store_size h k
 
   module _ (live : is_reset g.event ≡ false) (output : 128 ≤ g.out_size) (store : 64 ≤ g.store_size) where
-    by_tables : (t : Tables) → tables_told t ≡ tables_no g.own g.wishes → steps p g ≡ tabled t p (timed p g.settings g.own g.wishes g.event g.field g.time)
+    by_tables : (t : Result (Unit {0}) TablesRefusal) → tables_told t ≡ tables_no g.own g.wishes → steps p g ≡ tabled t p (timed p g.settings g.own g.wishes g.event g.field g.time)
     by_tables t e = live_checked live ∙ tables_checked p g.settings g.own g.wishes g.event g.field g.time g.out_size g.store_size output store t e
 
     -- 2, 3 and 4: the tables
     pub refuses_2 : good_field g.own ≡ false → steps p g ≡ quiet 2 p
     unfolding tables_no
-    refuses_2 a = by_tables found.BadOwn (rw a)
+    refuses_2 a = by_tables (Err found.BadOwn) (rw a)
 
     pub refuses_3 : good_field g.own ≡ true → good_wishes g.wishes ≡ false → steps p g ≡ quiet 3 p
     unfolding tables_no
-    refuses_3 a b = by_tables found.BadWishes (rw (a, b))
+    refuses_3 a b = by_tables (Err found.BadWishes) (rw (a, b))
 
     pub refuses_4 : good_field g.own ≡ true → good_wishes g.wishes ≡ true → all_inside g.own (wishes_of g.wishes) ≡ false → steps p g ≡ quiet 4 p
     unfolding tables_no
-    refuses_4 a b c = by_tables found.Outside (rw (a, b, c))
+    refuses_4 a b c = by_tables (Err found.Outside) (rw (a, b, c))
 
   module _ (s : Sound g) where
     by_time : steps p g ≡ timed p g.settings g.own g.wishes g.event g.field g.time
-    by_time = by_tables s.live s.output s.store found.Good (sym s.tables)
+    by_time = by_tables s.live s.output s.store (Ok tt) (sym s.tables)
 
     -- 5: before the phase was entered
     pub refuses_5 : g.time < entry_of p → steps p g ≡ quiet 5 p

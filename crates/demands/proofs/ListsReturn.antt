@@ -19,8 +19,8 @@ use Rattle.frame.specs.Reader.{information, read_frame}
 use Rattle.frame.specs.Reader as frameReader
 use Rattle.frame.specs.Writer.{write_frame}
 use Rattle.frame.specs.Writer as frameWriter
-use Rattle.frame.specs.declared.FrameRead.{FrameRead}
-use Rattle.frame.specs.declared.FrameWritten.{FrameWritten}
+use Rattle.frame.specs.declared.FrameReadRefusal.{FrameReadRefusal}
+use Rattle.frame.specs.declared.FrameWriteRefusal.{FrameWriteRefusal}
 use Rattle.exact.proofs.Exact as frames
 use Rattle.message.specs.Kinds.{known}
 use Rattle.message.specs.Reader.{list_room, has_ns, tail_at, ns_of, accepted, ns_told}
@@ -30,7 +30,8 @@ use Rattle.meaning.specs.Meaning.{all_shaped, ascending, all_parented}
 use Rattle.meaning.specs.Writing.{ends_there, ns_agrees, message_octets, checked_writing, list_writing, write_message}
 use Rattle.meaning.specs.Writing as writing
 use Rattle.writer.specs.Writer as messageWriter
-use Rattle.writer.specs.declared.MessageWritten.{MessageWritten}
+use Rattle.std.specs.Prelude.{Result}
+use Rattle.writer.specs.declared.MessageWriteRefusal.{MessageWriteRefusal}
 use Rattle.meaning.proofs.RoundTrip.{sent_writable, written_is_read, written_is_octets}
 use Rattle.demands.specs.Returning.{Tells, FourCalls, ComesBack}
 
@@ -103,7 +104,7 @@ unfolding put
 front_put xs d n e = rw e (take-append_seam xs (drop (length xs) d))
 
 -- where a message was written, its octets are the part that the reply tells
-pub message_left : (x : writing.Writing) (out₀ : List ℕ) (r : MessageWritten) (out₁ : List ℕ) → (x ≡ writing.refused 0 → ⊥) → messageWriter.Writes x out₀ r out₁
+pub message_left : (x : writing.Writing) (out₀ : List ℕ) (r : Result ℕ MessageWriteRefusal) (out₁ : List ℕ) → (x ≡ writing.refused 0 → ⊥) → messageWriter.Writes x out₀ r out₁
     → (messageWriter.write_told r).no ≡ 0
     → (os : List ℕ) × (x ≡ writing.sent os) × ((messageWriter.write_told r).count ≡ length os) × (take (messageWriter.write_told r).count out₁ ≡ os)
 message_left (writing.refused k) out₀ r out₁ n a h = absurd (n (ap writing.refused (sym (ap (λ (y : writing.Reply). y.no) a.reply) ∙ h)))
@@ -112,7 +113,7 @@ message_left (writing.sent os) out₀ r out₁ n a h =
     (os, refl, e, rw a.output (front_put os out₀ (messageWriter.write_told r).count e))
 
 -- where a frame was written, the reader given the output and the bit count told looks at that frame
-pub frame_left : (x : frameWriter.Writing) (out₀ : List ℕ) (r : FrameWritten) (out₁ : List ℕ) → (x ≡ frameWriter.refused 0 → ⊥) → frameWriter.Writes x out₀ r out₁
+pub frame_left : (x : frameWriter.Writing) (out₀ : List ℕ) (r : Result ℕ FrameWriteRefusal) (out₁ : List ℕ) → (x ≡ frameWriter.refused 0 → ⊥) → frameWriter.Writes x out₀ r out₁
     → (frameWriter.write_told r).no ≡ 0
     → (bs : List Bool) × (x ≡ frameWriter.sent bs) × ((room : ℕ) → read_frame out₁ (frameWriter.write_told r).count room ≡ read_frame (put (packed bs) out₀) (length bs) room)
 frame_left (frameWriter.refused k) out₀ r out₁ n a h = absurd (n (ap frameWriter.refused (sym (ap (λ (y : frameReader.Reply). y.no) a.reply) ∙ h)))
@@ -120,7 +121,7 @@ frame_left (frameWriter.sent bs) out₀ r out₁ n a h =
     (bs, refl, λ room. rw (a.output, ap (λ (y : frameReader.Reply). y.count) a.reply))
 
 -- where information was read, it is the part that the reply tells
-pub information_left : (os out₀ : List ℕ) (r : FrameRead) (out₁ : List ℕ) → frameReader.Reads (information os) out₀ r out₁ → take (frameReader.read_told r).count out₁ ≡ os
+pub information_left : (os out₀ : List ℕ) (r : Result ℕ FrameReadRefusal) (out₁ : List ℕ) → frameReader.Reads (information os) out₀ r out₁ → take (frameReader.read_told r).count out₁ ≡ os
 information_left os out₀ r out₁ a = rw a.output (front_put os out₀ (frameReader.read_told r).count (ap (λ (y : frameReader.Reply). y.count) a.reply))
 
 -- the NS of a message is what stands behind S, or nothing

@@ -7,6 +7,7 @@ use mathlib.Core.List.{List, [], ◌∷◌, ◌++◌}
 use mathlib.Core.Logic.{◌⊎◌, inl, inr, ⊎_elim, ◌↔◌}
 use mathlib.Core.Path.{◌≡◌, refl, sym, ap, ◌∙◌}
 use native.Mathlib.Omega.{arith}
+use Rattle.std.proofs.lemmas.Bool.{not-true, not_from_false}
 use Rattle.tree.specs.Codes.{code_of}
 use Rattle.tree.specs.Fields.{is_in, all_in}
 use Rattle.message.specs.Reader.{message_codes}
@@ -275,10 +276,6 @@ module _ {eight short ack : Bool} (w : Wish) {ms : List ℕ} (x : IsSent 1 eight
 both_hold : (a b : Bool) → (both a b ≡ true) ↔ ((a ≡ true) × (b ≡ true))
 both_hold a b = (both_true a b, λ h. rw h.0 h.1)
 
-not-true : (a : Bool) → (not a ≡ true) ↔ (a ≡ false)
-not-true true = (λ e. never e, λ e. never (sym e))
-not-true false = (λ e. refl, λ e. refl)
-
 module _ (list : List ℕ) (g : Given) (w : Wish) (ms : List ℕ) (x : IsMs (heard list) g w ms) where
   -- after a far list Short V.8 is said exactly if both sides offer it
   pub short_if_both : (is_in (code_of 1 0 0 2) (message_codes ms) ≡ true) ↔ ((g.settings.short_v8 ≡ true) × (far_says 2 g ≡ true))
@@ -290,8 +287,8 @@ module _ (list : List ℕ) (g : Given) (w : Wish) (ms : List ℕ) (x : IsMs (hea
       let outer = both_hold (not (both_short g)) (both_eight g) in
       let inner = both_hold g.settings.v8 (far_says 1 g) in
       rw (eight_in w x) (
-        λ e. let o = outer.0 e in let i = inner.0 o.1 in (i.0, i.1, (not-true (both_short g)).0 o.0),
-        λ h. outer.1 ((not-true (both_short g)).1 h.2, inner.1 (h.0, h.1)),
+        λ e. let o = outer.0 e in let i = inner.0 o.1 in (i.0, i.1, not-true (both_short g) o.0),
+        λ h. outer.1 (not_from_false (both_short g) h.2, inner.1 (h.0, h.1)),
       )
 
 -- with no far list it says neither

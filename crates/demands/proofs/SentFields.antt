@@ -9,6 +9,7 @@ use mathlib.Core.Path.{◌≡◌, refl, sym, ap, ◌∙◌}
 use native.Mathlib.Omega.{arith}
 use borrow.Author.Tests.{lt-ltb, ne_eqb}
 use lib.ListN.{length, length-drop}
+use Rattle.std.proofs.lemmas.Bool.{false_from_ne_true}
 use Rattle.octets.specs.Bits.{num, AreOctets}
 use Rattle.tree.specs.Block.{set_bits, block_numbers, block_end}
 use Rattle.tree.specs.Codes.{code_of, par_codes, rest_codes, field_base, field_codes, field_behind}
@@ -24,7 +25,7 @@ use Rattle.meaning.specs.Written.{written}
 use Rattle.meaning.specs.Writing.{sent, ns_agrees, write_message}
 use Rattle.meaning.proofs.Growing.{in_either}
 use Rattle.meaning.proofs.Meanings.{Meant, meaning_join}
-use Rattle.meaning.proofs.RoundTrip.{field_back, writable_sent, written_is_read, written_is_minimal}
+use Rattle.meaning.proofs.RoundTrip.{part_octets, field_back, writable_sent, written_is_read, written_is_minimal}
 use Rattle.names.specs.Named.{named_code, keeps}
 use Rattle.names.specs.Masks.{only}
 use Rattle.names.specs.declared.Keep.{Keep}
@@ -37,13 +38,13 @@ use Rattle.strike.proofs.Crossing.{kept_means}
 use Rattle.choice.specs.Wishes.{standard_codes, wish_codes}
 use Rattle.choice.specs.Choosing.{Far, First}
 use Rattle.choice.specs.declared.Pick.{Pick}
-use Rattle.choice.proofs.Truths.{never, not_so}
+use Rattle.choice.proofs.Truths.{never}
 use Rattle.table.specs.declared.Settings.{Settings}
 use Rattle.station.specs.Sending.{code_if, offer_codes, sent_field, list_offer, sent_list, mode_offer, sent_mode}
 use Rattle.station.specs.Acting.{stored_list, stored_mode}
 use Rattle.station.specs.declared.FarOffer.{FarOffer}
 use Rattle.station.specs.declared.Offer.{Offer}
-use Rattle.station.proofs.Sendings.{sent_short, part_octets}
+use Rattle.station.proofs.Sendings.{sent_short}
 use Rattle.demands.specs.Sent.{says, IsSent, IsField}
 
 -- ---- a field that is written
@@ -121,7 +122,7 @@ offer_codes_lem offer =
 
 -- neither of two lists has a number: it is not in both together
 in_neither : (x : ℕ) (a r : List ℕ) → is_in x a ≡ false → is_in x r ≡ false → is_in x (a ++ r) ≡ false
-in_neither x a r h k = not_so (is_in x (a ++ r)) (λ e. ⊎_elim (λ i. never (sym h ∙ i)) (λ i. never (sym k ∙ i)) (in_either x a r e))
+in_neither x a r h k = false_from_ne_true (is_in x (a ++ r)) (λ e. ⊎_elim (λ i. never (sym h ∙ i)) (λ i. never (sym k ∙ i)) (in_either x a r e))
 
 known_fields : (kind : ℕ) → 0 < kind → kind ≤ 3 → known kind ≡ true
 unfolding is_in
@@ -187,7 +188,7 @@ pub mode_is_sent : (own : List ℕ) (far : Far) (set : Settings) (offer : FarOff
     → IsSent 1 (mode_offer set offer).v8 (mode_offer set offer).short_v8 set.ack (wish_codes f.wish) (sent_mode set offer wishes p)
 unfolding sent_mode
 mode_is_sent own far set offer wishes p f octets good =
-    let o : AreOctets f.wish.field = rw f.field at (part_octets p.at p.length wishes octets f.inside) in
+    let o : AreOctets f.wish.field = rw f.field at (part_octets p.length p.at wishes octets) in
     rw f.field (field_is_sent 1 (mode_offer set offer) f.wish.field (omega arith) (omega arith) o good)
 
 -- the field of a list that is stored has its named codes

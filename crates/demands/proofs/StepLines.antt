@@ -31,10 +31,9 @@ use Rattle.table.specs.Phases.{is_mode}
 use Rattle.table.specs.Inner.{is_message, needs_field}
 use Rattle.station.specs.declared.Event.{Event}
 use Rattle.station.specs.declared.Event.TheVariants as events
-use Rattle.station.specs.declared.Sends.TheVariants.{NoSignal}
+use Rattle.std.specs.Prelude.{None}
 use Rattle.station.specs.declared.Stepped.{Stepped}
 use Rattle.table.proofs.Needing.{bare_needs}
-use Rattle.station.proofs.Needing.{hears_spoilt}
 use Rattle.station.proofs.Sendings.{nak_octet}
 use Rattle.demands.specs.Given.{Given, steps, Sound, Due, HearsSpoilt, is_acted_on}
 use Rattle.demands.proofs.Following.{refuses_6, follows, of_outcome}
@@ -125,7 +124,7 @@ module _ (p : Phase) (g : Given) (d : Due p g) where
       ∙ rw (spoilt_gets_nak1 g.settings (ack_of p) (kind_of p) ∙ awake_nak (kind_of p) d.awake, nak_octet 1)
 
   field_spoilt : (k : ℕ) → g.event ≡ events.Field → read_message g.field 448 ≡ refused k → eqb k 3 ≡ false → steps p g ≡ sends (0x28 ∷ []) [] [] (Initial g.time)
-  field_spoilt k e r other = nak_sent (rw e (hears_spoilt g.field k r other).0)
+  field_spoilt k e r other = nak_sent (rw (e, r, other))
 
   -- in every phase but Mode an invalid frame gives NAK(1) and Initial, and so does a field that the message reader refuses with 2 or 4
   pub spoilt_nak : HearsSpoilt g → steps p g ≡ sends (0x28 ∷ []) [] [] (Initial g.time)
@@ -134,9 +133,9 @@ module _ (p : Phase) (g : Given) (d : Due p g) where
 -- ---- refusals send nothing, and write nothing but what 11 has stored
 
 module _ (p : Phase) (g : Given) where
-  pub refusal_silent : ((steps p g).told ≡ 0 → ⊥) → ((steps p g).signal ≡ NoSignal) × ((steps p g).first ≡ []) × ((steps p g).second ≡ [])
+  pub refusal_silent : ((steps p g).told ≡ 0 → ⊥) → ((steps p g).signal ≡ None) × ((steps p g).first ≡ []) × ((steps p g).second ≡ [])
   refusal_silent =
-      of_outcome (λ (o : Outcome). (o.told ≡ 0 → ⊥) → (o.signal ≡ NoSignal) × (o.first ≡ []) × (o.second ≡ [])) p g
+      of_outcome (λ (o : Outcome). (o.told ≡ 0 → ⊥) → (o.signal ≡ None) × (o.first ≡ []) × (o.second ≡ [])) p g
       (λ k h n. (refl, refl, refl)) (λ n. (refl, refl, refl)) (λ stored n. (refl, refl, refl)) (λ o s n. absurd (n s.told))
 
   pub refusal_stores_none : is_acted_on (steps p g).told ≡ false → (steps p g).stored ≡ []

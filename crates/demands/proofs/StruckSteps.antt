@@ -12,10 +12,10 @@ use lib.ListN.{length, get_or}
 use Rattle.octets.specs.Bits.{AreOctets}
 use Rattle.octets.specs.Lay.{put}
 use Rattle.octets.specs.Places.{pick}
+use Rattle.tree.specs.Form.{Fine, Left}
 use Rattle.tree.specs.Codes.{code_of, field_base, field_codes}
 use Rattle.tree.specs.Fields.{is_in, codes_in, most_octets}
 use Rattle.tree.specs.declared.Field.TheVariants.{Identification, Standard}
-use Rattle.tree.specs.declared.Form.TheVariants.{Fine, Left}
 use Rattle.message.specs.Kinds.{has_fields, type_of}
 use Rattle.message.specs.Reader.{list_room, standard_at, message_form, message_codes, Reading, refused, accepted, read_message}
 use Rattle.message.proofs.Accepted.{accepted_passed, never_zero}
@@ -30,7 +30,8 @@ use Rattle.names.specs.declared.Keep.TheVariants.{All, Named}
 use Rattle.names.proofs.Sieving.{only_append, only_only, only_true, in_only}
 use Rattle.strike.specs.Rewriting.{kept}
 use Rattle.strike.specs.Striking.{struck_codes, struck_form, strike_message, unless_refused, struck_told, Strikes}
-use Rattle.strike.specs.declared.Struck.{Struck}
+use Rattle.std.specs.Prelude.{Result}
+use Rattle.strike.specs.declared.StrikeRefusal.{StrikeRefusal}
 use Rattle.strike.proofs.Crossing.{kept_means}
 use Rattle.strike.proofs.StruckForms.{struck_one}
 use Rattle.strike.proofs.StrikingForm.{struck_is_well_formed, struck_type, struck_is_read}
@@ -244,7 +245,7 @@ bare_struck m e h = struck_one m h ∙ whole m (one (eqb (length m) 1) refl (rw 
 -- ---- the operation
 
 -- success tells that the message is well-formed, and leaves the struck form at the front of the output
-pub strikes_told : (m out₀ : List ℕ) (r : Struck) (out₁ : List ℕ) → Strikes m out₀ r out₁ → (struck_told r).no ≡ 0
+pub strikes_told : (m out₀ : List ℕ) (r : Result ℕ StrikeRefusal) (out₁ : List ℕ) → Strikes m out₀ r out₁ → (struck_told r).no ≡ 0
     → (read_message m list_room ≡ accepted) × ((struck_told r).count ≡ length (struck_form m)) × (out₁ ≡ put (struck_form m) out₀)
 unfolding strike_message
 strikes_told m out₀ r out₁ s z = go (ltb (length out₀) most_octets) (read_message m list_room) (never_zero m list_room) s.reply s.output

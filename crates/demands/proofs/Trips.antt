@@ -8,7 +8,7 @@ use native.Mathlib.Decide.{dec_lt}
 use native.Mathlib.Omega.{arith}
 use borrow.Author.Tests.{lt-ltb}
 use lib.ListN.{length, take, drop, length-drop}
-use Rattle.octets.specs.Bits.{packed, AreOctets}
+use Rattle.octets.specs.Bits.{AreOctets}
 use Rattle.octets.specs.Lay.{put}
 use Rattle.octets.specs.Places.{pick}
 use Rattle.frame.specs.Limits.{most_information, information_room, frame_room}
@@ -16,32 +16,35 @@ use Rattle.frame.specs.Reader.{information, read_frame}
 use Rattle.frame.specs.Reader as frameReader
 use Rattle.frame.specs.Writer.{write_frame}
 use Rattle.frame.specs.Writer as frameWriter
-use Rattle.frame.specs.declared.FrameRead.{FrameRead}
-use Rattle.frame.specs.declared.FrameRead.TheVariants as frameRead
-use Rattle.frame.specs.declared.FrameWritten.{FrameWritten}
-use Rattle.frame.specs.declared.FrameWritten.TheVariants as frameWritten
+use Rattle.std.specs.Prelude.{Result, Ok, Err, MatchResult}
+use Rattle.frame.specs.declared.FrameReadRefusal.{FrameReadRefusal}
+use Rattle.frame.specs.declared.FrameWriteRefusal.{FrameWriteRefusal}
 use Rattle.exact.proofs.Exact.{accepted_is_frame}
 use Rattle.exact.proofs.Exact as frames
 use Rattle.exact.proofs.ReaderUnique as frameReading
-use Rattle.exact.proofs.WriterUnique as frameWriting
 use Rattle.tree.specs.Fields.{most_octets}
 use Rattle.message.specs.Reader.{list_room, ns_place, ns_size, ns_of, has_ns, tail_at, read_message, Reads}
-use Rattle.message.specs.declared.MessageRead.{MessageRead}
-use Rattle.message.specs.declared.MessageRead.TheVariants.{Read, BadLent}
+use Rattle.message.specs.declared.Message.{Message}
+use Rattle.message.specs.declared.MessageReadRefusal.{MessageReadRefusal}
+use Rattle.message.specs.declared.MessageReadRefusal.TheVariants.{BadLent}
 use Rattle.message.proofs.Unique.{read_unique}
 use Rattle.meaning.specs.Writing.{write_message}
 use Rattle.meaning.specs.Writing as writing
 use Rattle.writer.specs.Writer as messageWriter
-use Rattle.writer.specs.declared.MessageWritten.{MessageWritten}
-use Rattle.writer.specs.declared.MessageWritten.TheVariants as messageWritten
+use Rattle.writer.specs.declared.MessageWriteRefusal.{MessageWriteRefusal}
 use Rattle.meaning.proofs.RoundTrip.{sent_writable, written_is_read}
-use Rattle.writer.proofs.WriterUnique as messageWriting
-use Rattle.demands.specs.Returning.{ReturnsList}
+use Rattle.demands.specs.Returning.{Trip, ReturnsList}
 use Rattle.demands.specs.Stages.{ReadsBack, FramesBack}
 use Rattle.demands.specs.declared.Flags.{Flags}
-use Rattle.demands.specs.declared.Trip.{Trip}
-use Rattle.demands.specs.declared.Trip.TheVariants.{Unwritten, Unframed, Back}
+use Rattle.demands.specs.declared.TripRefusal.{TripRefusal}
 use Rattle.demands.proofs.ListsReturn.{message_never_zero, frame_never_zero, message_left, frame_left, information_left, ns_behind}
+
+-- ---- what goes on behind `map_err`
+
+-- a success behind it was one before it
+pub passed_on : {A E : Type 0} (r : Result A E) (y : A) → MatchResult r (λ x. ◌≡◌ {A = Result A TripRefusal} (Ok y) (Ok x)) (λ e. ⊥) → r ≡ Ok y
+passed_on (Ok x) y h = let e : x ≡ y = cc in ap Ok e
+passed_on (Err e) y h = absurd h
 
 -- ---- what the message reader makes of a message that was written
 
@@ -56,26 +59,21 @@ ns_size_lem l = go (has_ns l) ∙ ap length (ns_behind l)
 module _ (kind revision : ℕ) (list ns : List ℕ) (room : ℕ) (os : List ℕ) (w : write_message kind revision list ns room ≡ writing.sent os) where
   -- it reads what was given, and the list is in the lent one
   list_read : (back : List ℕ) → list_room ≤ length back
-      → Reads os back (Read (record { kind = kind; revision = revision; count = length list; ns = record { at = ns_place os; length = length ns } })) (put list back)
+      → Reads os back (Ok (record { kind = kind; revision = revision; count = length list; ns = record { at = ns_place os; length = length ns } })) (put list back)
   list_read back h =
       let t = written_is_read kind revision list ns room (length back) os w h in
       let size : ns_size os ≡ length ns = ns_size_lem os ∙ ap length t.4 in
       record { reply = rw (t.0, size, t.1, t.2, t.3); list = rw (t.0, t.3) }
 
 -- with too small a list it reads nothing
-none_read : (os back : List ℕ) → length back < list_room → Reads os back BadLent back
+none_read : (os back : List ℕ) → length back < list_room → Reads os back (Err BadLent) back
 unfolding read_message put
 none_read os back h = record { reply = rw (lt-ltb (length back) list_room h); list = rw (lt-ltb (length back) list_room h) }
 
 -- ---- from the frame on
 
-module _ (bits : List ℕ) (count : ℕ) (found₀ : List ℕ) (r : FrameRead) (found₁ : List ℕ) (a : frameReader.Reads (read_frame bits count information_room) found₀ r found₁) where
-  -- information is no refusal
-  pub found_told : (os : List ℕ) → read_frame bits count information_room ≡ information os → r ≡ frameRead.Octets (length os)
-  found_told os i =
-      (frameReading.read_unique (information os) found₀ r (frameRead.Octets (length os)) found₁ (put os found₀) (rw i at a) (record { reply = refl; output = refl })).0
-
-  module _ (size : ℕ) (e : r ≡ frameRead.Octets size) where
+module _ (bits : List ℕ) (count : ℕ) (found₀ : List ℕ) (r : Result ℕ FrameReadRefusal) (found₁ : List ℕ) (a : frameReader.Reads (read_frame bits count information_room) found₀ r found₁) where
+  module _ (size : ℕ) (e : r ≡ Ok size) where
     -- the octets told of are all in the buffer
     pub found_size : size ≤ most_information
     found_size =
@@ -84,33 +82,24 @@ module _ (bits : List ℕ) (count : ℕ) (found₀ : List ℕ) (r : FrameRead) (
         omega (arith, (accepted_is_frame bits count information_room s.0 s.1).few)
 
     -- and are read as a message
-    pub found_read : (back₀ : List ℕ) (m : MessageRead) (back₁ : List ℕ) → Reads (take (size - 0) found₁) back₀ m back₁
-        → (os : List ℕ) → read_frame bits count information_room ≡ information os → ReadsBack os back₀ (Back m) back₁
+    pub found_read : (back₀ : List ℕ) (m : Result Message MessageReadRefusal) (back₁ : List ℕ) → Reads (take (size - 0) found₁) back₀ m back₁
+        → (os : List ℕ) → read_frame bits count information_room ≡ information os → ReadsBack os back₀ (Ok m) back₁
     found_read back₀ m back₁ x os i =
-        let b : frameReader.Reads (read_frame bits count information_room) found₀ (frameRead.Octets size) found₁ = rw e at a in
+        let b : frameReader.Reads (read_frame bits count information_room) found₀ (Ok size) found₁ = rw e at a in
         let z : size - 0 ≡ size = omega arith in
-        let t : take size found₁ ≡ os = information_left os found₀ (frameRead.Octets size) found₁ (rw i at b) in
+        let t : take size found₁ ≡ os = information_left os found₀ (Ok size) found₁ (rw i at b) in
         record { read = m; answer = refl; reads = rw (z, t) at x }
 
 -- ---- from the message on
 
-module _ (os : List ℕ) (flags : Flags) (bits₀ : List ℕ) (r : FrameWritten) (bits₁ : List ℕ)
+module _ (os : List ℕ) (flags : Flags) (bits₀ : List ℕ) (r : Result ℕ FrameWriteRefusal) (bits₁ : List ℕ)
     (a : frameWriter.Writes (write_frame os flags.opening flags.closing frame_room) bits₀ r bits₁) where
-  -- where the frame writer refused, the trip ends
-  pub framing_refused : ((n : ℕ) → r ≡ frameWritten.Bits n → ⊥) → (back : List ℕ) → FramesBack os flags back Unframed back
-  framing_refused h back =
-      record {
-        unframed = λ k f. (refl, refl);
-        framed = λ bs f.
-            absurd (h (length bs) (frameWriting.write_unique (frameWriter.sent bs) bits₀ r (frameWritten.Bits (length bs)) bits₁ (put (packed bs) bits₀) (rw f at a) (record { reply = refl; output = refl })).0);
-      }
-
-  -- where it did not, the frame is read
-  pub framing_read : AreOctets os → length bits₀ ≡ frame_room → (count : ℕ) → r ≡ frameWritten.Bits count → (back₀ : List ℕ) (t : Trip) (back₁ : List ℕ)
+  -- where the frame writer did not refuse, the frame is read
+  pub framing_read : AreOctets os → length bits₀ ≡ frame_room → (count : ℕ) → r ≡ Ok count → (back₀ : List ℕ) (t : Trip) (back₁ : List ℕ)
       → ((is : List ℕ) → read_frame bits₁ count information_room ≡ information is → ReadsBack is back₀ t back₁) → FramesBack os flags back₀ t back₁
   framing_read o room count e back₀ t back₁ x =
-      let b : frameWriter.Writes (write_frame os flags.opening flags.closing frame_room) bits₀ (frameWritten.Bits count) bits₁ = rw e at a in
-      let l = frame_left (write_frame os flags.opening flags.closing frame_room) bits₀ (frameWritten.Bits count) bits₁ (frame_never_zero os flags.opening flags.closing frame_room) b refl in
+      let b : frameWriter.Writes (write_frame os flags.opening flags.closing frame_room) bits₀ (Ok count) bits₁ = rw e at a in
+      let l = frame_left (write_frame os flags.opening flags.closing frame_room) bits₀ (Ok count) bits₁ (frame_never_zero os flags.opening flags.closing frame_room) b refl in
       let sent : write_frame os flags.opening flags.closing (length bits₀) ≡ frameWriter.sent l.0 = rw room l.1 in
       let i = frames.written_is_read os flags.opening flags.closing bits₀ l.0 information_room o sent (omega arith) in
       record {
@@ -120,29 +109,14 @@ module _ (os : List ℕ) (flags : Flags) (bits₀ : List ℕ) (r : FrameWritten)
 
 -- ---- from the list on
 
-module _ (kind revision : ℕ) (list ns message₀ : List ℕ) (r : MessageWritten) (message₁ : List ℕ)
+module _ (kind revision : ℕ) (list ns message₀ : List ℕ) (r : Result ℕ MessageWriteRefusal) (message₁ : List ℕ)
     (a : messageWriter.Writes (write_message kind revision list ns most_octets) message₀ r message₁) where
-  -- where the message writer refused, the trip ends
-  pub writing_refused : (flags : Flags) → ((n : ℕ) → r ≡ messageWritten.Octets n → ⊥) → (back : List ℕ) → ReturnsList kind revision list ns flags back Unwritten back
-  writing_refused flags h back =
-      record {
-        unwritten = λ k w. (refl, refl);
-        unframed = λ os k w f. absurd (never os w);
-        returned = λ os bs w f l. absurd (never os w);
-        small = λ os bs w f l. absurd (never os w);
-      }
-    where
-      never : (os : List ℕ) → write_message kind revision list ns most_octets ≡ writing.sent os → ⊥
-      never os w =
-          h (length os)
-          (messageWriting.write_unique (writing.sent os) message₀ r (messageWritten.Octets (length os)) message₁ (put os message₀) (rw w at a) (record { reply = refl; output = refl })).0
-
-  module _ (size : ℕ) (e : r ≡ messageWritten.Octets size) where
-    -- where it did not, the octets told of are the message
+  module _ (size : ℕ) (e : r ≡ Ok size) where
+    -- where the message writer did not refuse, the octets told of are the message
     written : (os : List ℕ) × (write_message kind revision list ns most_octets ≡ writing.sent os) × (size ≡ length os) × (take size message₁ ≡ os)
     written =
-        let b : messageWriter.Writes (write_message kind revision list ns most_octets) message₀ (messageWritten.Octets size) message₁ = rw e at a in
-        message_left (write_message kind revision list ns most_octets) message₀ (messageWritten.Octets size) message₁ (message_never_zero kind revision list ns most_octets) b refl
+        let b : messageWriter.Writes (write_message kind revision list ns most_octets) message₀ (Ok size) message₁ = rw e at a in
+        message_left (write_message kind revision list ns most_octets) message₀ (Ok size) message₁ (message_never_zero kind revision list ns most_octets) b refl
 
     pub written_size : size ≤ most_octets
     written_size = omega (arith, written.2, (sent_writable kind revision list ns most_octets written.0 written.1).few)
@@ -160,8 +134,8 @@ module _ (kind revision : ℕ) (list ns message₀ : List ℕ) (r : MessageWritt
         here : (os : List ℕ) → write_message kind revision list ns most_octets ≡ writing.sent os → FramesBack os flags back₀ t back₁
         here os w = let v = written.1 in let y = written.3 in let z : size - 0 ≡ size = omega arith in let same : take size message₁ ≡ os = cc in rw (z, same) at x
 
-        came : (os : List ℕ) → ReadsBack os back₀ t back₁ → (m : MessageRead) (back : List ℕ) → Reads os back₀ m back → (t ≡ Back m) × (back₁ ≡ back)
-        came os b m back y = let u = read_unique os back₀ b.read m back₁ back b.reads y in (b.answer ∙ ap Back u.0, u.1)
+        came : (os : List ℕ) → ReadsBack os back₀ t back₁ → (m : Result Message MessageReadRefusal) (back : List ℕ) → Reads os back₀ m back → (t ≡ Ok m) × (back₁ ≡ back)
+        came os b m back y = let u = read_unique os back₀ b.read m back₁ back b.reads y in (b.answer ∙ ap Ok u.0, u.1)
 
 -- ---- no second reply and no second list
 

@@ -8,10 +8,9 @@ use native.Mathlib.Omega.{arith}
 use lib.ListN.{length, get_or, take, drop, length-append, length-drop}
 use Rattle.octets.specs.Bits.{AreOctets}
 use Rattle.tree.specs.Codes.{code_of, field_base, field_codes}
-use Rattle.tree.specs.Form.{is_fine, field_form}
+use Rattle.tree.specs.Form.{Fine, is_fine, field_form}
 use Rattle.tree.specs.Fields.{is_in}
 use Rattle.tree.specs.declared.Field.TheVariants.{Identification}
-use Rattle.tree.specs.declared.Form.TheVariants.{Fine}
 use Rattle.tree.proofs.Forms.{is_fine_lem, field_fits}
 use Rattle.tree.proofs.Shifted.{same_codes, same_fine, same_rest}
 use Rattle.message.specs.Kinds.{known, has_fields, type_of}

@@ -1,6 +1,6 @@
 -- To be believed: one call of `step` with its buffers, and what its contract alone says of them.
 -- Assumes nothing.
-use Rattle.std.specs.Prelude.{ℕ, ◌+◌, true, false, List, [], ◌∷◌, ◌⊎◌, ◌↔◌, ◌≡◌, length, take, drop}
+use Rattle.std.specs.Prelude.{ℕ, ◌+◌, true, false, None, List, [], ◌∷◌, ◌⊎◌, ◌↔◌, ◌≡◌, length, take, drop}
 use Rattle.table.specs.declared.Phase.{Phase}
 use Rattle.table.specs.declared.Phase.TheVariants.{Initial}
 use Rattle.table.specs.declared.Settings.{Settings}
@@ -11,7 +11,6 @@ use Rattle.station.specs.Stepping.{told_no}
 use Rattle.table.specs.Phases.{is_mode}
 use Rattle.station.specs.Promises.{Steps}
 use Rattle.station.specs.declared.Event.{Event}
-use Rattle.station.specs.declared.Sends.TheVariants.{NoSignal}
 use Rattle.station.specs.declared.Stepped.{Stepped}
 use Rattle.demands.specs.Given.{Given, steps, InOctets, Sound, Due, HearsType, HearsSpoilt, standard_heard}
 use Rattle.demands.specs.Sent.{IsCl, IsField, far_says}
@@ -92,7 +91,7 @@ pub record OverBuffers (c : Call) : Type 0 where
       × (next_of c ≡ proposed_by y)
   -- with 11, and exactly then, no wish suits; nothing is sent, and Initial is next
   pub eleven_none : (x : Proposes (phase_of c) (given c)) → (told c ≡ 11) ↔ NoneSuits x.far (given c)
-  pub eleven_leaves : told c ≡ 11 → (c.out₁ ≡ c.out₀) × (c.answer.signal ≡ NoSignal) × (next_of c ≡ Initial c.time)
+  pub eleven_leaves : told c ≡ 11 → (c.out₁ ≡ c.out₀) × (c.answer.signal ≡ None) × (next_of c ≡ Initial c.time)
   -- an MS that leads to Mode stands in the store, minimal; ACK(1), one octet 24, is sent exactly if it asks for that, and else nothing
   pub mode_stored : Due (phase_of c) (given c) → HearsType 1 (given c) → is_mode (kind_of (next_of c)) ≡ true → IsField (standard_heard (given c)) (stored_then c)
   pub ack_asked : Due (phase_of c) (given c) → HearsType 1 (given c) → is_mode (kind_of (next_of c)) ≡ true → (first_sent c ≡ 0x24 ∷ []) ↔ (far_says 4 (given c) ≡ true)

@@ -1,7 +1,7 @@
 -- To be believed: demand 3. A newer board can't confuse an older one: a message and its struck form give the same answer, octets, store
 -- and next state; a mode with an unnamed parameter is refused; and the revision of a message decides nothing.
 -- Assumes nothing.
-use Rattle.std.specs.Prelude.{ℕ, ◌≤◌, true, false, List, [], ◌∷◌, ◌⊎◌, ◌≡◌, length, get_or, drop}
+use Rattle.std.specs.Prelude.{ℕ, ◌≤◌, true, false, Result, List, [], ◌∷◌, ◌⊎◌, ◌≡◌, length, get_or, drop}
 use Rattle.octets.specs.Bits.{AreOctets}
 use Rattle.octets.specs.Lay.{put}
 use Rattle.tree.specs.Codes.{field_base, field_codes}
@@ -12,7 +12,7 @@ use Rattle.meaning.specs.Minimal.{message_minimal}
 use Rattle.names.specs.Named.{named_code}
 use Rattle.names.specs.Masks.{only}
 use Rattle.strike.specs.Striking.{struck_form, struck_told, Strikes}
-use Rattle.strike.specs.declared.Struck.{Struck}
+use Rattle.strike.specs.declared.StrikeRefusal.{StrikeRefusal}
 use Rattle.table.specs.declared.Phase.{Phase}
 use Rattle.table.specs.declared.Phase.TheVariants.{Initial}
 use Rattle.table.specs.declared.Heard.TheVariants as heard
@@ -41,7 +41,7 @@ pub record DemandThree : Type 0 where
       → Steps state set own run Field m time out₀ store₀ r out₁ store₁ → Steps state set own run Field (struck_form m) time out₀ store₀ r' out₁' store₁'
       → (r ≡ r') × (out₁ ≡ out₁') × (store₁ ≡ store₁')
   -- The struck form is what the operation `strike_message` writes where it answers with success, by its contract alone.
-  pub struck_by_operation : (m out₀ : List ℕ) (r : Struck) (out₁ : List ℕ) → Strikes m out₀ r out₁ → (struck_told r).no ≡ 0
+  pub struck_by_operation : (m out₀ : List ℕ) (r : Result ℕ StrikeRefusal) (out₁ : List ℕ) → Strikes m out₀ r out₁ → (struck_told r).no ≡ 0
       → (read_message m 448 ≡ accepted) × ((struck_told r).count ≡ length (struck_form m)) × (out₁ ≡ put (struck_form m) out₀)
   -- Of a CL (type 2) or a CLR (3) the struck form has the named parameters, and no others.
   pub list_struck : (m : List ℕ) → AreOctets m → read_message m 448 ≡ accepted → (type_of m ≡ 2) ⊎ (type_of m ≡ 3)

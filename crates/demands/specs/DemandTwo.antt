@@ -1,6 +1,7 @@
 -- To be believed: demand 2. Frames, messages and capability trees mean exactly what V.8 bis says; lists come back; the station moves as
 -- the table says; the mode proposed is the first ready wish that both sides can do, and it refuses to propose exactly when there is none.
 -- Assumes nothing.
+use Rattle.tree.specs.Form.{Fine}
 use Rattle.std.specs.Prelude.{ℕ, ◌*◌, ◌<◌, ◌≤◌, Bool, true, false, ◌↔◌, ◌≡◌, length, take}
 use mathlib.Core.List.{List, [], ◌∷◌, Memᴰ}
 use Rattle.octets.specs.Bits.{bits, packed, AreOctets}
@@ -12,7 +13,6 @@ use Rattle.frame.specs.Writer.{write_frame}
 use Rattle.frame.specs.Writer as frameWriter
 use Rattle.tree.specs.Codes.{code_of, field_base, field_codes}
 use Rattle.tree.specs.Fields.{is_in, all_in}
-use Rattle.tree.specs.declared.Form.TheVariants.{Fine}
 use Rattle.message.specs.Kinds.{known, type_of, revision_of}
 use Rattle.message.specs.Reader.{standard_at, message_form, message_codes, ns_of, accepted, read_message}
 use Rattle.meaning.specs.Meaning.{all_shaped, ascending, all_parented}

@@ -4,8 +4,7 @@ use Rattle.std.specs.Prelude.{ℕ, ◌≤◌, true, ◌≡◌, length}
 use mathlib.Core.List.{List, Memᴰ}
 use Rattle.tree.specs.Codes.{field_base, field_codes, field_behind}
 use Rattle.tree.specs.Fields.{is_in, has_spar}
-use Rattle.tree.specs.Form.{field_form}
-use Rattle.tree.specs.declared.Form.TheVariants.{Fine}
+use Rattle.tree.specs.Form.{Fine, field_form}
 use Rattle.meaning.specs.Minimal.{field_minimal}
 use Rattle.names.specs.Named.{standard_code}
 use Rattle.choice.specs.Wishes.{Wish, wishes_of, records_of, wish_codes}

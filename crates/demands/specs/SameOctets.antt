@@ -4,9 +4,8 @@
 use Rattle.std.specs.Prelude.{ℕ, ◌≤◌, true, false, List, [], ◌∷◌, ◌++◌, ◌↔◌, ◌≡◌, length, get_or, replicate}
 use Rattle.octets.specs.Bits.{AreOctets}
 use Rattle.tree.specs.Codes.{field_behind}
-use Rattle.tree.specs.Form.{field_form}
+use Rattle.tree.specs.Form.{Fine, field_form}
 use Rattle.tree.specs.Wide.{field_fits}
-use Rattle.tree.specs.declared.Form.TheVariants.{Fine}
 use Rattle.message.specs.Kinds.{type_of, revision_of}
 use Rattle.message.specs.Reader.{message_codes, ns_of, accepted, read_message}
 use Rattle.meaning.specs.Coded.{field_coded}

@@ -3,8 +3,7 @@
 use Rattle.std.specs.Prelude.{ℕ, Bool, true, false, not, List, [], ◌∷◌, ◌++◌, ◌≡◌, length}
 use Rattle.tree.specs.Codes.{code_of, field_base, field_codes, field_behind}
 use Rattle.tree.specs.Fields.{is_in}
-use Rattle.tree.specs.Form.{field_form}
-use Rattle.tree.specs.declared.Form.TheVariants.{Fine}
+use Rattle.tree.specs.Form.{Fine, field_form}
 use Rattle.message.specs.Reader.{message_codes}
 use Rattle.octets.specs.Places.{both}
 use Rattle.meaning.specs.Minimal.{field_minimal, message_minimal}

@@ -8,9 +8,9 @@ ghost use Rattle.frame.specs.Reader.{information, read_frame};
 ghost use Rattle.demands.specs.Returning.{ReturnsList};
 ghost use Rattle.demands.specs.Stages.{ReadsBack, FramesBack};
 
-use frame::{FrameRead, FrameWritten, read_frame, write_frame};
-use message::{MessageRead, read_message};
-use writer::{MessageWritten, write_message};
+use frame::{read_frame, write_frame};
+use message::{Message, MessageReadRefusal, read_message};
+use writer::write_message;
 
 // How many flags a frame begins and ends with.
 #[derive(Clone, Copy)]
@@ -19,13 +19,15 @@ pub struct Flags {
     pub closing: usize,
 }
 
-// What came of a trip: no message was written, or it got no frame, or this was read at the end.
-#[derive(Clone, Copy)]
-pub enum Trip {
+// Why a trip ends before anything is read: no message was written, or it got no frame.
+#[derive(Clone, Copy, Debug, PartialEq, Eq)]
+pub enum TripRefusal {
     Unwritten,
     Unframed,
-    Back(MessageRead),
 }
+
+// What came of a trip: what the message reader answered at its end, or why it ended before.
+type Trip = Result<Result<Message, MessageReadRefusal>, TripRefusal>;
 
 // Reads a frame, and the message in it.
 fn read_back(bits: &[u8], count: usize, back: &mut [u32]) -> Trip
@@ -33,10 +35,8 @@ fn read_back(bits: &[u8], count: usize, back: &mut [u32]) -> Trip
 {
     let mut found = [0u8; 64];
     // no frame that was written is refused
-    let FrameRead::Octets(size) = read_frame(bits, count, &mut found) else {
-        return Trip::Unframed;
-    };
-    Trip::Back(read_message(&found[0..size], back))
+    let size = read_frame(bits, count, &mut found).map_err(|_| TripRefusal::Unframed)?;
+    Ok(read_message(&found[0..size], back))
 }
 
 // Frames a message, and reads it again.
@@ -45,9 +45,7 @@ fn framed_back(message: &[u8], flags: Flags, back: &mut [u32]) -> Trip
 {
     let mut bits = [0u8; 88];
     let written = write_frame(message, flags.opening, flags.closing, &mut bits);
-    let FrameWritten::Bits(count) = written else {
-        return Trip::Unframed;
-    };
+    let count = written.map_err(|_| TripRefusal::Unframed)?;
     read_back(&bits, count, back)
 }
 
@@ -59,13 +57,11 @@ pub fn there_and_back(
     ns: &[u8],
     flags: Flags,
     back: &mut [u32],
-) -> Trip
+) -> Result<Result<Message, MessageReadRefusal>, TripRefusal>
     ensures { ReturnsList kind revision list.now ns.now flags back.old result back.new }
 {
     let mut message = [0u8; 64];
     let written = write_message(kind, revision, list, ns, &mut message);
-    let MessageWritten::Octets(size) = written else {
-        return Trip::Unwritten;
-    };
+    let size = written.map_err(|_| TripRefusal::Unwritten)?;
     framed_back(&message[0..size], flags, back)
 }

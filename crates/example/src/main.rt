@@ -4,30 +4,29 @@
 
 mod words;
 
-use frame::{FrameRead, FrameWritten};
-use station::{Event, Sends, Stepped};
+use station::{Event, Stepped};
 use std::io;
-use table::State;
+use table::{Settings, Start, State};
 
 // What a board can do, as an S field: telephony, and data by V.42 and V.34. A can do V.42 bis too.
-fn own_table(name: u8) -> [u8; 5] {
+fn own_table(name: char) -> [u8; 5] {
     match name {
-        b'A' => [0x80, 0xA1, 0x06, 0xD0, 0xC0],
+        'A' => [0x80, 0xA1, 0x06, 0xD0, 0xC0],
         _ => [0x80, 0xA1, 0x02, 0xD0, 0xC0],
     }
 }
 
 // What a board wishes for, the best first: each wish is 1 if it is ready, a length and an S field. Of A's only the second is common.
-fn wishes_of(name: u8) -> [u8; 12] {
+fn wishes_of(name: char) -> [u8; 12] {
     match name {
-        b'A' => [1, 4, 0x80, 0x81, 0x06, 0xD0, 1, 4, 0x80, 0x81, 0x02, 0xD0],
+        'A' => [1, 4, 0x80, 0x81, 0x06, 0xD0, 1, 4, 0x80, 0x81, 0x02, 0xD0],
         _ => [1, 4, 0x80, 0x81, 0x00, 0xD0, 1, 4, 0x80, 0x81, 0x02, 0xD0],
     }
 }
 
 // Both boards offer V.8 and ask for ACK(1), and answer CR_d with a CL.
-fn settings() -> table::Settings {
-    table::Settings {
+fn settings() -> Settings {
+    Settings {
         v8: true,
         short_v8: false,
         ack: true,
@@ -45,134 +44,88 @@ fn clock() -> u64 {
 
 // So many octets of a run from a place on, or none where it has fewer.
 fn part(run: &[u8], start: usize, length: usize) -> &[u8] {
-    if run.len() < start {
-        return &run[..0];
-    }
-    if run.len() - start < length {
-        return &run[..0];
-    }
-    let end = start + length;
-    &run[start..end]
-}
-
-// One step of a board, and what there is in its answer.
-fn turn(
-    rt: &impl Print,
-    name: u8,
-    state: State,
-    event: Event,
-    field: &[u8],
-    out: &mut [u8],
-    store: &mut [u8],
-) -> io::Result<Stepped> {
-    let own = own_table(name);
-    let wishes = wishes_of(name);
-    let set = settings();
-    let now = clock();
-    let stepped = station::step(state, set, &own, &wishes, event, field, now, out, store);
-    let told = stepped.told;
-    let signal = stepped.signal;
-    let next = stepped.state;
-    // A refusal sends nothing: 1 to 5 are the caller's mistakes, by 6 and 11 all is over, by 9 and 10 nothing has changed.
-    words::print_refusal(rt, name, told)?;
-    // What the other board can do, or the mode that it proposed.
-    words::print_stored(rt, name, part(store, 0, stepped.stored))?;
-    // For the chip: a signal, or one field or two, each in a frame of its own.
-    words::print_signal(rt, name, signal)?;
-    words::print_sent(rt, name, part(out, 0, stepped.first))?;
-    words::print_sent(rt, name, part(out, stepped.first, stepped.second))?;
-    // For the board's next step.
-    words::print_phase(rt, name, next)?;
-    Ok(stepped)
+    let behind = run.get(start..).unwrap_or(b"");
+    behind.get(..length).unwrap_or(b"")
 }
 
 // Puts the frame of a field on the line, and gives its bits: none for a field of no octets, which is refused.
 fn send(field: &[u8], line: &mut [u8]) -> usize {
-    match frame::write_frame(field, 2, 1, line) {
-        FrameWritten::Bits(bits) => bits,
-        _ => 0,
-    }
+    frame::write_frame(field, 2, 1, line).unwrap_or(0)
 }
 
-// A board hears a field that the other sent: it comes as the bits of a frame.
-fn hear(
-    rt: &impl Print,
-    name: u8,
+// A board: its name, its state between two steps, and the buffers that it lends to each.
+#[derive(Drop)]
+struct Board {
+    name: char,
     state: State,
-    sent: &[u8],
-    out: &mut [u8],
-    store: &mut [u8],
-) -> io::Result<Stepped> {
-    let mut line = [0u8; 88];
-    let bits = send(sent, &mut line);
-    let mut field = [0u8; 64];
-    match frame::read_frame(&line, bits, &mut field) {
-        FrameRead::Octets(n) => turn(
-            rt,
+    out: [u8; 128],
+    store: [u8; 64],
+}
+
+impl Board {
+    fn new(name: char) -> Board {
+        Board {
             name,
-            state,
-            Event::Field,
-            part(&field, 0, n),
-            out,
-            store,
-        ),
-        _ => turn(rt, name, state, Event::InvalidFrame, b"", out, store),
+            state: station::begin(clock()),
+            out: [0; 128],
+            store: [0; 64],
+        }
     }
-}
 
-// A board hears what the other sent: a signal, or the field at the front of the other's output. A second field is sent only where a
-// CLR was heard, and here nobody sends one.
-fn answer(
-    rt: &impl Print,
-    name: u8,
-    state: State,
-    sent: Stepped,
-    from: &[u8],
-    out: &mut [u8],
-    store: &mut [u8],
-) -> io::Result<Stepped> {
-    let signal = sent.signal;
-    match signal {
-        Sends::Signal(heard) => turn(rt, name, state, Event::Signal(heard), b"", out, store),
-        Sends::NoSignal => hear(rt, name, state, part(from, 0, sent.first), out, store),
+    // One step of the board, and what there is in its answer.
+    fn turn(&mut self, rt: &impl Print, event: Event, field: &[u8]) -> io::Result<Stepped> {
+        let name = self.name;
+        let state = self.state;
+        let set = settings();
+        let own = own_table(name);
+        let wishes = wishes_of(name);
+        let now = clock();
+        let out = &mut self.out;
+        let store = &mut self.store;
+        let stepped = station::step(state, set, &own, &wishes, event, field, now, out, store);
+        // A refusal sends nothing: 1 to 5 are the caller's mistakes, by 6 and 11 all is over, by 9 and 10 nothing has changed.
+        words::print_refusal(rt, name, stepped.told)?;
+        // What the other board can do, or the mode that it proposed.
+        words::print_stored(rt, name, part(store, 0, stepped.stored))?;
+        // For the chip: a signal, or one field or two, each in a frame of its own.
+        words::print_signal(rt, name, stepped.signal)?;
+        words::print_sent(rt, name, part(out, 0, stepped.first))?;
+        words::print_sent(rt, name, part(out, stepped.first, stepped.second))?;
+        // For the board's next step.
+        let next = stepped.state;
+        words::print_phase(rt, name, next.phase)?;
+        self.state = next;
+        Ok(stepped)
+    }
+
+    // The board hears a field that the other sent: it comes as the bits of a frame.
+    fn hear(&mut self, rt: &impl Print, sent: &[u8]) -> io::Result<Stepped> {
+        let mut line = [0; 88];
+        let bits = send(sent, &mut line);
+        let mut field = [0; 64];
+        match frame::read_frame(&line, bits, &mut field) {
+            Ok(n) => self.turn(rt, Event::Field, part(&field, 0, n)),
+            Err(_) => self.turn(rt, Event::InvalidFrame, b""),
+        }
+    }
+
+    // The board hears what the other sent: a signal, or the field at the front of the other's output. A second field is sent only where
+    // a CLR was heard, and here nobody sends one.
+    fn answer(&mut self, rt: &impl Print, sent: Stepped, from: &[u8]) -> io::Result<Stepped> {
+        match sent.signal {
+            Some(heard) => self.turn(rt, Event::Signal(heard), b""),
+            None => self.hear(rt, part(from, 0, sent.first)),
+        }
     }
 }
 
 fn main(rt: HostRuntime) -> io::Result<()> {
-    let begin = station::begin(clock());
-    let mut out_a = [0u8; 128];
-    let mut out_b = [0u8; 128];
-    let mut store_a = [0u8; 64];
-    let mut store_b = [0u8; 64];
-    let start = Event::Start(table::Start::CrD);
-    let asks = turn(&rt, b'A', begin, start, b"", &mut out_a, &mut store_a)?;
-    let lists = answer(&rt, b'B', begin, asks, &out_a, &mut out_b, &mut store_b)?;
-    let picks = answer(
-        &rt,
-        b'A',
-        asks.state,
-        lists,
-        &out_b,
-        &mut out_a,
-        &mut store_a,
-    )?;
-    let judges = answer(
-        &rt,
-        b'B',
-        lists.state,
-        picks,
-        &out_a,
-        &mut out_b,
-        &mut store_b,
-    )?;
-    answer(
-        &rt,
-        b'A',
-        picks.state,
-        judges,
-        &out_b,
-        &mut out_a,
-        &mut store_a,
-    )?;
+    let mut a = Board::new('A');
+    let mut b = Board::new('B');
+    let asks = a.turn(&rt, Event::Start(Start::CrD), b"")?;
+    let lists = b.answer(&rt, asks, &a.out)?;
+    let picks = a.answer(&rt, lists, &b.out)?;
+    let judges = b.answer(&rt, picks, &a.out)?;
+    a.answer(&rt, judges, &b.out)?;
     Ok(())
 }

@@ -4,11 +4,12 @@
 use mathlib.Core.Path.{◌≡◌, refl, sym, ap, ap₂, ◌∙◌, subst}
 use mathlib.Core.Bool.{Bool, true, false}
 use Prim.Native.Nat.{ℕ, zero, suc, ◌+◌, ◌*◌, ◌/◌, ◌%◌, ◌^◌, ◌<◌}
-use native.Mathlib.Nat.{le_of_suc-le-suc, not-suc-le-zero, zero-lt-suc, zero-add, add-zero, zero-mul, mul-one, mod-lt, div-add-mod', div-lt_iff_lt-mul, pow-suc}
+use native.Mathlib.Nat.{zero-lt-suc, zero-add, add-zero, zero-mul, mul-one, mod-lt, div-add-mod', div-lt_iff_lt-mul, pow-suc}
 use native.Mathlib.Omega.{arith}
 use borrow.Author.Tests.{eqb-true, eqb-false}
-use lib.Arith.{bin_ind, lt-one}
-use lib.Bits.{bit_xor, differ, xor_step, xor_shr, xor_mod, xor_lt, xor_block, xor_zero_r, block_half, block_odd}
+use lib.Arith.{lt-one}
+use lib.Bits.{bit_xor, xor_lt, xor_block, xor_zero_r, block_half, block_odd}
+use Rattle.std.specs.Int.Bits.{xor_assoc}
 use lib.Dec.{eqb}
 use lib.Pow.{pow_pos}
 use Rattle.octets.specs.Bits.{odd}
@@ -16,36 +17,8 @@ use Rattle.octets.specs.Places.{pick}
 use Rattle.fcs.specs.Register.{generator_number, reduced, divided, turns, octet_step}
 use Rattle.fcs.proofs.Registers.{octet_turns}
 
-by_digit : (P : ℕ → Type 0) → P 0 → P 1 → (x : ℕ) → x < 2 → P x
-by_digit P p q zero h = p
-by_digit P p q (suc zero) h = q
-by_digit P p q (suc (suc n)) h = absurd (not-suc-le-zero (le_of_suc-le-suc (le_of_suc-le-suc h)))
-
-digit_assoc : (x y z : ℕ) → x < 2 → y < 2 → z < 2 → differ (bit_xor x y) z ≡ differ x (bit_xor y z)
-digit_assoc x y z hx hy hz =
-    by_digit (λ (x : ℕ). differ (bit_xor x y) z ≡ differ x (bit_xor y z))
-    (by_digit (λ (y : ℕ). differ (bit_xor 0 y) z ≡ differ 0 (bit_xor y z))
-    (by_digit (λ (z : ℕ). differ (bit_xor 0 0) z ≡ differ 0 (bit_xor 0 z)) refl refl z hz)
-    (by_digit (λ (z : ℕ). differ (bit_xor 0 1) z ≡ differ 0 (bit_xor 1 z)) refl refl z hz) y hy)
-    (by_digit (λ (y : ℕ). differ (bit_xor 1 y) z ≡ differ 1 (bit_xor y z))
-    (by_digit (λ (z : ℕ). differ (bit_xor 1 0) z ≡ differ 1 (bit_xor 0 z)) refl refl z hz)
-    (by_digit (λ (z : ℕ). differ (bit_xor 1 1) z ≡ differ 1 (bit_xor 1 z)) refl refl z hz) y hy)
-    x hx
-
 two_pos : 0 < 2
 two_pos = zero-lt-suc 1
-
-xor_assoc : (a b c : ℕ) → bit_xor (bit_xor a b) c ≡ bit_xor a (bit_xor b c)
-xor_assoc =
-    bin_ind (λ (a : ℕ). (b c : ℕ) → bit_xor (bit_xor a b) c ≡ bit_xor a (bit_xor b c)) (λ b c. refl)
-    (λ n ih b c.
-    xor_step (bit_xor n b) c
-    ∙ ap₂ (λ (x y : ℕ). x * 2 + y)
-    (ap (λ (x : ℕ). bit_xor x (c / 2)) (xor_shr n b 1) ∙ ih (b / 2) (c / 2) ∙ ap (λ (x : ℕ). bit_xor (n / 2) x) (sym (xor_shr b c 1)))
-    (ap (λ (x : ℕ). differ x (c % 2)) (xor_mod n b 1)
-    ∙ digit_assoc (n % 2) (b % 2) (c % 2) (mod-lt n two_pos) (mod-lt b two_pos) (mod-lt c two_pos)
-    ∙ ap (λ (x : ℕ). differ (n % 2) x) (sym (xor_mod b c 1)))
-    ∙ sym (xor_step n (bit_xor b c)))
 
 -- ---- the upper part of a register is only shifted
 

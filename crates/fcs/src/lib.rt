@@ -27,10 +27,8 @@ pub fn fcs_of(run: &[u8]) -> u16
     ensures { TellsFcs run.now result }
 {
     let mut register = 65535u16;
-    let mut i = 0;
-    while i < run.len() {
-        register = octet_into(register, run[i]);
-        i += 1;
+    for &octet in run {
+        register = octet_into(register, octet);
     }
     65535 - register
 }

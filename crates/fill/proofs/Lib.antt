@@ -1,3 +1,4 @@
 pub mod Stored
 pub mod Positions
+pub mod Rows
 pub mod Both

@@ -1,341 +1,61 @@
--- The codes of positions stored one after the other: of those set in an octet, found from the lowest up, and of those set in a block.
--- Said once for single codes, for the NPar(3) blocks under SPar(2) and for the Par(2) blocks under SPar(1). Then what a group and a field are made of.
+-- The positions of a block as codes above a number.
 -- Assumes nothing.
-use Prim.Native.Nat.{ℕ, zero, suc, ◌+◌, ◌*◌, ◌-◌, ◌/◌, ◌%◌, ◌^◌, ◌≤◌, ◌<◌}
+use Prim.Native.Nat.{ℕ, zero, suc, ◌+◌, ◌/◌, ◌%◌, ◌≤◌, ◌<◌}
 use mathlib.Core.Path.{◌≡◌, refl, sym, ap, ◌∙◌}
-use mathlib.Core.Bool.{true, false}
-use mathlib.Core.List.{List, [], ◌∷◌, ◌++◌, append_assoc, append-nil}
-use native.Mathlib.Nat.{mod-lt, pow-suc, add-mul}
-use native.Mathlib.Numerals.{add-one}
+use mathlib.Core.Bool.{Bool, true, false}
+use mathlib.Core.List.{List, [], ◌∷◌}
 use native.Mathlib.Omega.{arith}
-use borrow.Author.Tests.{lt-ltb, le-ltb}
-use lib.Count.{count_trailing_zeros}
 use lib.Dec.{ltb}
-use lib.ListN.{length, get_or, drop_of_length-le, length-append}
-use lib.Pow.{pow_pos, pow_mono, shr_le}
-use lib.Seq.{drop-cons}
+use lib.ListN.{length, drop}
+use Rattle.std.proofs.Common.{map}
+use Rattle.std.proofs.lemmas.List.{map-append}
 use Rattle.octets.specs.Places.{pick}
-use Rattle.tree.specs.Block.{keep, set_bits, block_numbers, numbers, behind, ended}
-use Rattle.tree.specs.Codes.{of_t, of_s, sub_codes, subs_behind, group_codes, group_behind, par_codes, pars_behind, rest_codes, field_codes}
-use Rattle.fill.specs.Storing.{most_of_field, most_codes, Stores, Fills}
-use Rattle.fill.specs.declared.Tally.{Tally}
-use Rattle.tree.proofs.Few.{codes_few}
-use Rattle.tree.proofs.Lowest.{Lowest, lowest, bits_none, bits_below}
-use Rattle.fill.proofs.Stored.{fills_none, stores_then, stores_fills, room_first, room_behind}
+use Rattle.tree.specs.Levels.{width_of, mark_of}
+use Rattle.tree.specs.Order.{AllBelow}
+use Rattle.tree.specs.declared.Level.{Level}
+use Rattle.tree.proofs.Ascending.{numbers_between}
+use Rattle.tree.proofs.Giving.{width_most}
+use Rattle.tree.specs.Block.{keep, set_bits, block_numbers, numbers}
 
--- codes made of positions one after the other, each read at the place behind the one before
-pub record Stepped (one : ℕ → ℕ → List ℕ) (many : List ℕ → ℕ → List ℕ) (past : ℕ → ℕ) (pasts : ℕ → ℕ → ℕ) : Type 0 where
-  pub none : (e : ℕ) → many [] e ≡ []
-  pub next : (q : ℕ) (qs : List ℕ) (e : ℕ) → many (q ∷ qs) e ≡ one q e ++ many qs (past e)
-  pub stay : (e : ℕ) → pasts 0 e ≡ e
-  pub pass : (k e : ℕ) → pasts (suc k) e ≡ pasts k (past e)
+-- positions as codes
+abbrev pub above : ℕ → List ℕ → List ℕ
+above p qs = map (λ q. p + q) qs
 
--- each position is a code itself, and nothing is read
-pub codes_stepped : Stepped (λ q e. q ∷ []) (λ qs e. qs) (λ e. e) (λ k e. e)
-codes_stepped = record { none = λ e. refl; next = λ q qs e. refl; stay = λ e. refl; pass = λ k e. refl }
+above_keep : (p b q : ℕ) (l : List ℕ) → keep b (p + q) (above p l) ≡ above p (keep b q l)
+above_keep p zero q l = refl
+above_keep p (suc b) q l = refl
 
--- the same of codes that stand above b, each position counting u
-pub record Family (u : ℕ) (one : ℕ → ℕ → List ℕ) (many : ℕ → List ℕ → ℕ → List ℕ) (past : ℕ → ℕ) (pasts : ℕ → ℕ → ℕ) : Type 0 where
-  pub from : (b : ℕ) → Stepped (λ q e. one (b + q * u) e) (many b) past pasts
-
--- SPar(2) positions and SPar(1) positions
-pub subs : (l : List ℕ) → Family of_t (λ c e. c ∷ numbers 6 64 c l e) (λ c ts e. sub_codes c ts l e) (λ e. behind 64 l e) (λ k e. subs_behind k l e)
-unfolding sub_codes subs_behind
-subs l = record { from = λ b. record { none = λ e. refl; next = λ q qs e. refl; stay = λ e. refl; pass = λ k e. refl } }
-
-pub pars : (l : List ℕ)
-    → Family of_s
-    (λ c e. c ∷ (numbers 6 64 c l e ++ group_codes c l (behind 64 l e)))
-    (λ b qs e. par_codes b qs l e)
-    (λ e. group_behind l (behind 64 l e))
-    (λ k e. pars_behind k l e)
-unfolding par_codes pars_behind
-pars l = record { from = λ b. record { none = λ e. refl; next = λ q qs e. refl; stay = λ e. refl; pass = λ k e. refl } }
-
--- of all positions those done have their codes stored, and the others are still to come
-pub record Going (many : List ℕ → ℕ → List ℕ) (pasts : ℕ → ℕ → ℕ) (all : List ℕ) (start : Tally) (list₀ octets₀ todo list octets : List ℕ) (tally : Tally) : Type 0 where
-  pub done : List ℕ
-  pub split : done ++ todo ≡ all
-  pub fills : Fills (many done start.at) (pasts (length done) start.at) list₀ octets₀ start.count list octets tally
-
-module _ {one : ℕ → ℕ → List ℕ} {many : List ℕ → ℕ → List ℕ} {past : ℕ → ℕ} {pasts : ℕ → ℕ → ℕ} (x : Stepped one many past pasts) where
-  -- over two lists of positions
-  many_append : (qs ts : List ℕ) (e : ℕ) → many (qs ++ ts) e ≡ many qs e ++ many ts (pasts (length qs) e)
-  many_append [] ts e = rw (x.none e, x.stay e)
-  many_append (q ∷ qs) ts e =
-      x.next q (qs ++ ts) e
-      ∙ rw (x.next q qs e, x.pass (length qs) e, many_append qs ts (past e)) (sym (append_assoc (one q e) (many qs (past e)) (many ts (pasts (length qs) (past e)))))
-
-  pasts_append : (qs ts : List ℕ) (e : ℕ) → pasts (length (qs ++ ts)) e ≡ pasts (length ts) (pasts (length qs) e)
-  pasts_append [] ts e = rw (x.stay e)
-  pasts_append (q ∷ qs) ts e = x.pass (length (qs ++ ts)) e ∙ rw (x.pass (length qs) e) (pasts_append qs ts (past e))
-
-  -- of a single one
-  many_one : (q e : ℕ) → many (q ∷ []) e ≡ one q e
-  many_one q e = x.next q [] e ∙ rw (x.none (past e)) (append-nil (one q e))
-
-  pasts_one : (e : ℕ) → pasts 1 e ≡ past e
-  pasts_one e = x.pass 0 e ∙ x.stay (past e)
-
-  -- none is done yet
-  pub going_none : (all list octets : List ℕ) (start : Tally) → Going many pasts all start list octets all list octets start
-  going_none all list octets start =
-      record { done = []; split = refl; fills = rw (x.none start.at, x.stay start.at) (fills_none refl list octets start.count) }
-
-  -- all are done
-  pub going_end : {all list₀ octets₀ list octets : List ℕ} {start tally : Tally} → Going many pasts all start list₀ octets₀ [] list octets tally
-      → Fills (many all start.at) (pasts (length all) start.at) list₀ octets₀ start.count list octets tally
-  going_end g = rw (sym (append-nil g.done) ∙ g.split) at g.fills
-
-  -- some positions, and others behind them, are still to come
-  module _ {all list₀ octets₀ : List ℕ} {start : Tally} (qs todo : List ℕ) {list octets : List ℕ} {tally : Tally} (g : Going many pasts all start list₀ octets₀ (qs ++ todo) list octets tally) where
-    pub going_room : {most : ℕ} → start.count + length (many all start.at) ≤ most → tally.count + length (many qs tally.at) ≤ most
-    going_room h =
-        let e = tally.at in
-        let m : many all start.at ≡ many g.done start.at ++ (many qs e ++ many todo (pasts (length qs) e))
-        = rw (← g.split, many_append g.done (qs ++ todo) start.at, ← g.fills.at, many_append qs todo e) in
-        omega (
-          arith,
-          ap length m,
-          g.fills.stores.count,
-          length-append (many g.done start.at) (many qs e ++ many todo (pasts (length qs) e)),
-          length-append (many qs e) (many todo (pasts (length qs) e)),
-        )
-
-    pub going_turn : {list₁ octets₁ : List ℕ} {tally₁ : Tally} → Fills (many qs tally.at) (pasts (length qs) tally.at) list octets tally.count list₁ octets₁ tally₁
-        → Going many pasts all start list₀ octets₀ todo list₁ octets₁ tally₁
-    going_turn y = record {
-      done = g.done ++ qs;
-      split = append_assoc g.done qs todo ∙ g.split;
-      fills = rw (many_append g.done qs start.at, pasts_append g.done qs start.at) (stores_fills g.fills.stores (rw g.fills.at at y));
-    }
-
--- ---- the positions set in one octet
-
--- the bits up to position p are done; the others are shifted down to bits
-pub record BitsGoing (many : List ℕ → ℕ → List ℕ) (pasts : ℕ → ℕ → ℕ) (above octet : ℕ) (start : Tally) (list₀ octets₀ list octets : List ℕ) (tally : Tally) (bits p : ℕ) : Type 0 where
-  pub going : Going many pasts (set_bits 7 above octet) start list₀ octets₀ (set_bits (above + 7 - p) p bits) list octets tally
-  pub from : above ≤ p
-  pub reach : p ≤ above + 7
-  pub fits : bits < 2 ^ (above + 7 - p)
-
-module _ {one : ℕ → ℕ → List ℕ} {many : List ℕ → ℕ → List ℕ} {past : ℕ → ℕ} {pasts : ℕ → ℕ → ℕ} (x : Stepped one many past pasts) {above octet : ℕ} where
-  -- none is done yet, and none is left
-  pub bits_start : (list octets : List ℕ) (start : Tally) → octet < 128 → BitsGoing many pasts above octet start list octets list octets start octet above
-  bits_start list octets start h =
-      let e : above + 7 - above ≡ 7 = omega arith in
-      record { going = rw e (going_none x (set_bits 7 above octet) list octets start); from = omega arith; reach = omega arith; fits = rw e h }
-
-  module _ {start : Tally} {list₀ octets₀ list octets : List ℕ} {tally : Tally} {bits p : ℕ} (y : BitsGoing many pasts above octet start list₀ octets₀ list octets tally bits p) where
-    pub bits_end : bits ≡ 0
-        → Fills (many (set_bits 7 above octet) start.at) (pasts (length (set_bits 7 above octet)) start.at) list₀ octets₀ start.count list octets tally
-    bits_end h = going_end x (rw (h, bits_none (above + 7 - p) p) at y.going)
-
-    -- one is left: the lowest, behind the zeros that are counted
-    module _ (some : bits ≡ 0 → ⊥) where
-      abbrev z : ℕ
-      z = count_trailing_zeros 32 bits
-
-      low : Lowest (above + 7 - p) p bits z
-      low = lowest 32 (above + 7 - p) p bits (omega (arith, y.from)) (omega arith) y.fits
-
-      abbrev todo : List ℕ
-      todo = set_bits (above + 7 - p - (z + 1)) (p + (z + 1)) (bits / 2 ^ z / 2)
-
-      here : Going many pasts (set_bits 7 above octet) start list₀ octets₀ ((p + (z + 1)) ∷ todo) list octets tally
-      here = rw low.1 at y.going
-
-      pub bits_reach : p + (z + 1) ≤ above + 7
-      bits_reach = omega (arith, low.0, y.reach)
-
-      pub bits_less : bits / 2 ^ z / 2 < bits
-      bits_less = omega (arith, shr_le bits z)
-
-      pub bits_room : {most : ℕ} → start.count + length (many (set_bits 7 above octet) start.at) ≤ most → tally.count + length (one (p + (z + 1)) tally.at) ≤ most
-      bits_room h = rw (many_one x (p + (z + 1)) tally.at) at (going_room x ((p + (z + 1)) ∷ []) todo here h)
-
-      pub bits_turn : {list₁ octets₁ : List ℕ} {tally₁ : Tally} → Fills (one (p + (z + 1)) tally.at) (past tally.at) list octets tally.count list₁ octets₁ tally₁
-          → BitsGoing many pasts above octet start list₀ octets₀ list₁ octets₁ tally₁ (bits / 2 ^ z / 2) (p + (z + 1))
-      bits_turn f =
-          let e : above + 7 - (p + (z + 1)) ≡ above + 7 - p - (z + 1) = omega arith in
-          record {
-            going = rw e (going_turn x ((p + (z + 1)) ∷ []) todo here (rw (← (many_one x (p + (z + 1)) tally.at), ← (pasts_one x tally.at)) at f));
-            from = omega (arith, y.from);
-            reach = bits_reach;
-            fits = rw e low.2;
-          }
-
--- the lowest bit alone is the number above
-pub bits_first : (c : ℕ) → 0 < c → set_bits 7 (c - 1) 1 ≡ c ∷ []
+above_bits : (w p q d : ℕ) → set_bits w (p + q) d ≡ above p (set_bits w q d)
 unfolding set_bits
-bits_first c h = let e : c - 1 + 1 ≡ c = omega arith in rw e
+above_bits zero p q d = refl
+above_bits (suc w) p q d =
+    let e : p + q + 1 ≡ p + (q + 1) = omega arith in
+    rw (e, above_bits w p (q + 1) (d / 2)) (above_keep p (d % 2) (q + 1) (set_bits w (q + 1) (d / 2)))
 
--- ---- the positions set in a block
+above_pick : (p : ℕ) (t : Bool) (l : List ℕ) → pick t (above p l) [] ≡ above p (pick t l [])
+above_pick p true l = refl
+above_pick p false l = refl
 
--- a number of w bits has none set above them
-bits_more : (k w p d : ℕ) → d < 2 ^ w → set_bits (w + k) p d ≡ set_bits w p d
-unfolding set_bits
-bits_more k zero p d h = let z : d ≡ 0 = omega arith in rw (z, bits_none (0 + k) p)
-bits_more k (suc w) p d h =
-    let s : suc w + k ≡ suc (w + k) = omega arith in
-    rw (s, bits_more k w (p + 1) (d / 2) (omega (arith, pow-suc 2 w)))
-
--- of an octet the w lowest bits are positions of its block: what is left of it below 2 ^ w has no others
-bits_seven : (w p d : ℕ) → w ≤ 7 → set_bits 7 p (d % 2 ^ w) ≡ set_bits w p d
-bits_seven w p d h =
-    let s : 7 ≡ w + (7 - w) = omega arith in
-    ap (λ (k : ℕ). set_bits k p (d % 2 ^ w)) s ∙ bits_more (7 - w) w p (d % 2 ^ w) (mod-lt d (pow_pos w)) ∙ bits_below w p d
-
-pub octet_seven : (w d : ℕ) → w ≤ 7 → d % 2 ^ w < 128
-octet_seven w d h = omega (arith, mod-lt d (pow_pos w), pow_mono {j = 7} h)
-
--- those of its octet at a place, and those behind it
-block_next : (w p i : ℕ) (l : List ℕ) {m : ℕ} → m ≡ 2 ^ w → w ≤ 7 → i < length l
-    → numbers w (2 ^ w) p l i ≡ set_bits 7 p (get_or l i 0 % m) ++ pick (ltb (get_or l i 0) m) (numbers w (2 ^ w) (p + w) l (i + 1)) []
+above_block : (w m p q : ℕ) (l : List ℕ) → block_numbers w m (p + q) l ≡ above p (block_numbers w m q l)
 unfolding block_numbers
-block_next w p i l mask v h = rw (mask, add-one i, bits_seven w p (get_or l i 0) v, drop-cons l i 0 h)
+above_block w m p q [] = refl
+above_block w m p q (o ∷ l) =
+    let e : p + q + w ≡ p + (q + w) = omega arith in
+    rw (e, above_bits w p q o, above_block w m p (q + w) l, above_pick p (ltb o m) (block_numbers w m (q + w) l))
+    (sym (map-append (λ q. p + q) (set_bits w q o) (pick (ltb o m) (block_numbers w m (q + w) l) [])))
 
--- of the block at place e, its positions above p₀, the octets before place i are done, and none was its last; those of the octet at i stand above p
-pub record OctetsGoing (many : List ℕ → ℕ → List ℕ) (pasts : ℕ → ℕ → ℕ) (w p₀ : ℕ) (l : List ℕ) (e : ℕ) (start : Tally) (list₀ octets₀ list octets : List ℕ) (tally : Tally) (p i : ℕ) : Type 0 where
-  pub going : Going many pasts (numbers w (2 ^ w) p₀ l e) start list₀ octets₀ (numbers w (2 ^ w) p l i) list octets tally
-  pub reach : p ≤ p₀ + 7 * i
+-- a block's positions above a number
+pub above_numbers : (w m p : ℕ) (l : List ℕ) (e : ℕ) → above p (numbers w m 0 l e) ≡ numbers w m p l e
+above_numbers w m p l e = sym (above_block w m p 0 (drop e l)) ∙ ap (λ k. block_numbers w m k (drop e l)) (omega arith)
 
-module _ {one : ℕ → ℕ → List ℕ} {many : List ℕ → ℕ → List ℕ} {past : ℕ → ℕ} {pasts : ℕ → ℕ → ℕ} (x : Stepped one many past pasts) {w p₀ : ℕ} {l : List ℕ} {e : ℕ} where
-  -- none is done yet, and the octets are at their end
-  pub octets_start : (list octets : List ℕ) (start : Tally) → OctetsGoing many pasts w p₀ l e start list octets list octets start p₀ e
-  octets_start list octets start = record { going = going_none x (numbers w (2 ^ w) p₀ l e) list octets start; reach = omega arith }
+-- those of a block in a message's octets are small
+pub positions_small : (v : Level) (l : List ℕ) (e : ℕ) → length l ≤ 64 → AllBelow 512 (numbers (width_of v) (mark_of v) 0 l e)
+positions_small v l e h = (numbers_between (width_of v) (mark_of v) 0 l e (width_most v) h).1
 
-  module _ {start : Tally} {list₀ octets₀ list octets : List ℕ} {tally : Tally} {p i : ℕ} (y : OctetsGoing many pasts w p₀ l e start list₀ octets₀ list octets tally p i) where
-    pub octets_end : length l ≤ i
-        → Fills (many (numbers w (2 ^ w) p₀ l e) start.at) (pasts (length (numbers w (2 ^ w) p₀ l e)) start.at) list₀ octets₀ start.count list octets tally
-    unfolding block_numbers
-    octets_end h = going_end x (rw (drop_of_length-le l {i = i} h) at y.going)
+pub first_small : {q : ℕ} {all qs : List ℕ} → all ≡ q ∷ qs → AllBelow 512 all → q < 512
+unfolding AllBelow
+first_small e h = (rw e at h).0
 
-    -- the octet at i, and what is behind it
-    module _ {m : ℕ} (mask : m ≡ 2 ^ w) (v : w ≤ 7) (h : i < length l) where
-      abbrev qs : List ℕ
-      qs = set_bits 7 p (get_or l i 0 % m)
-
-      abbrev rest : List ℕ
-      rest = pick (ltb (get_or l i 0) m) (numbers w (2 ^ w) (p + w) l (i + 1)) []
-
-      there : Going many pasts (numbers w (2 ^ w) p₀ l e) start list₀ octets₀ (qs ++ rest) list octets tally
-      there = rw (block_next w p i l mask v h) at y.going
-
-      pub octets_room : {most : ℕ} → start.count + length (many (numbers w (2 ^ w) p₀ l e) start.at) ≤ most → tally.count + length (many qs tally.at) ≤ most
-      octets_room = going_room x qs rest there
-
-      module _ {list₁ octets₁ : List ℕ} {tally₁ : Tally} (z : Fills (many qs tally.at) (pasts (length qs) tally.at) list octets tally.count list₁ octets₁ tally₁) where
-        after : Going many pasts (numbers w (2 ^ w) p₀ l e) start list₀ octets₀ rest list₁ octets₁ tally₁
-        after = going_turn x qs rest there z
-
-        -- it is not the last of the block, or it is
-        pub octets_turn : get_or l i 0 < m → OctetsGoing many pasts w p₀ l e start list₀ octets₀ list₁ octets₁ tally₁ (p + w) (i + 1)
-        octets_turn k = record { going = rw (lt-ltb _ _ k) at after; reach = omega (arith, y.reach) }
-
-        pub octets_last : m ≤ get_or l i 0
-            → Fills (many (numbers w (2 ^ w) p₀ l e) start.at) (pasts (length (numbers w (2 ^ w) p₀ l e)) start.at) list₀ octets₀ start.count list₁ octets₁ tally₁
-        octets_last k = going_end x (rw (le-ltb _ _ k) at after)
-
--- ---- positions by their codes
-
--- a code that stands p positions above b, each counting u, where P holds of p
-pub record Above (P : ℕ → Type 0) (b u code : ℕ) : Type 0 where
-  pub p : ℕ
-  pub holds : P p
-  pub here : code ≡ b + p * u
-
--- how many are set does not depend on their numbers
-bits_length : (w p k d : ℕ) → length (set_bits w p d) ≡ length (set_bits w k d)
-unfolding set_bits
-bits_length zero p k d = refl
-bits_length (suc w) p k d = go (d % 2) (bits_length w (p + 1) (k + 1) (d / 2))
-  where
-    go : (t : ℕ) → length (set_bits w (p + 1) (d / 2)) ≡ length (set_bits w (k + 1) (d / 2))
-        → length (keep t (p + 1) (set_bits w (p + 1) (d / 2))) ≡ length (keep t (k + 1) (set_bits w (k + 1) (d / 2)))
-    go zero h = h
-    go (suc t) h = ap suc h
-
-module _ {u : ℕ} {one : ℕ → ℕ → List ℕ} {many : ℕ → List ℕ → ℕ → List ℕ} {past : ℕ → ℕ} {pasts : ℕ → ℕ → ℕ} (x : Family u one many past pasts) where
-  -- numbered from p further on, an octet's positions give the codes that they give above the code of p
-  shifted : (b p k w d e : ℕ) → many b (set_bits w (p + k) d) e ≡ many (b + p * u) (set_bits w k d) e
-  unfolding set_bits
-  shifted b p k zero d e = (x.from b).none e ∙ sym ((x.from (b + p * u)).none e)
-  shifted b p k (suc w) d e =
-      let n : p + k + 1 ≡ p + (k + 1) = omega arith in
-      rw n (go (d % 2) (shifted b p (k + 1) w (d / 2)))
-    where
-      go : (t : ℕ) → ((f : ℕ) → many b (set_bits w (p + (k + 1)) (d / 2)) f ≡ many (b + p * u) (set_bits w (k + 1) (d / 2)) f)
-          → many b (keep t (p + (k + 1)) (set_bits w (p + (k + 1)) (d / 2))) e ≡ many (b + p * u) (keep t (k + 1) (set_bits w (k + 1) (d / 2))) e
-      go zero h = h e
-      go (suc t) h =
-          let c : b + (p + (k + 1)) * u ≡ b + p * u + (k + 1) * u = rw (add-mul p (k + 1) u) (omega arith) in
-          (x.from b).next (p + (k + 1)) (set_bits w (p + (k + 1)) (d / 2)) e
-          ∙ rw (c, h (past e)) (sym ((x.from (b + p * u)).next (k + 1) (set_bits w (k + 1) (d / 2)) e))
-
-  octet_shift : (b p d e : ℕ) {code : ℕ} → code ≡ b + p * u → many b (set_bits 7 p d) e ≡ many code (set_bits 7 0 d) e
-  octet_shift b p d e h = let z : p ≡ p + 0 = omega arith in ap (λ (n : ℕ). many b (set_bits 7 n d) e) z ∙ shifted b p 0 7 d e ∙ ap (λ (c : ℕ). many c (set_bits 7 0 d) e) (sym h)
-
-  module _ {b octet : ℕ} {start : Tally} {list₀ octets₀ list octets : List ℕ} {tally : Tally} {bits code : ℕ} (y : Above (BitsGoing (many b) pasts 0 octet start list₀ octets₀ list octets tally bits) b u code) (some : bits ≡ 0 → ⊥) where
-    step : code + (count_trailing_zeros 32 bits + 1) * u ≡ b + (y.p + (count_trailing_zeros 32 bits + 1)) * u
-    step = rw (y.here, add-mul y.p (count_trailing_zeros 32 bits + 1) u) (omega arith)
-
-    pub code_room : {most : ℕ} → start.count + length (many b (set_bits 7 0 octet) start.at) ≤ most
-        → tally.count + length (one (code + (count_trailing_zeros 32 bits + 1) * u) tally.at) ≤ most
-    code_room h = rw step (bits_room (x.from b) y.holds some h)
-
-    pub code_turn : {list₁ octets₁ : List ℕ} {tally₁ : Tally}
-        → Fills (one (code + (count_trailing_zeros 32 bits + 1) * u) tally.at) (past tally.at) list octets tally.count list₁ octets₁ tally₁
-        → Above (BitsGoing (many b) pasts 0 octet start list₀ octets₀ list₁ octets₁ tally₁ (bits / 2 ^ count_trailing_zeros 32 bits / 2)) b u (code + (count_trailing_zeros 32 bits + 1) * u)
-    code_turn f = record { p = y.p + (count_trailing_zeros 32 bits + 1); holds = bits_turn (x.from b) y.holds some (rw step at f); here = step }
-
-  -- the octet at i of a block, by the code that its positions stand above
-  module _ {b w e : ℕ} {l : List ℕ} {start : Tally} {list₀ octets₀ list octets : List ℕ} {tally : Tally} {i code : ℕ} (y : Above (λ p. OctetsGoing (many b) pasts w 0 l e start list₀ octets₀ list octets tally p i) b u code) {m : ℕ} (mask : m ≡ 2 ^ w) (v : w ≤ 7) (h : i < length l) where
-    abbrev d : ℕ
-    d = get_or l i 0 % m
-
-    pub row_room : {most : ℕ} → start.count + length (many b (numbers w (2 ^ w) 0 l e) start.at) ≤ most → tally.count + length (many code (set_bits 7 0 d) tally.at) ≤ most
-    row_room k = rw (octet_shift b y.p d tally.at y.here) at (octets_room (x.from b) y.holds mask v h k)
-
-    module _ {list₁ octets₁ : List ℕ} {tally₁ : Tally} (f : Fills (many code (set_bits 7 0 d) tally.at) (pasts (length (set_bits 7 0 d)) tally.at) list octets tally.count list₁ octets₁ tally₁) where
-      row : Fills (many b (set_bits 7 y.p d) tally.at) (pasts (length (set_bits 7 y.p d)) tally.at) list octets tally.count list₁ octets₁ tally₁
-      row = rw (octet_shift b y.p d tally.at y.here, bits_length 7 y.p 0 d) f
-
-      pub row_turn : get_or l i 0 < m → Above (λ p. OctetsGoing (many b) pasts w 0 l e start list₀ octets₀ list₁ octets₁ tally₁ p (i + 1)) b u (code + w * u)
-      row_turn k = record { p = y.p + w; holds = octets_turn (x.from b) y.holds mask v h row k; here = rw (y.here, add-mul y.p w u) (omega arith) }
-
-      pub row_last : m ≤ get_or l i 0
-          → Fills (many b (numbers w (2 ^ w) 0 l e) start.at) (pasts (length (numbers w (2 ^ w) 0 l e)) start.at) list₀ octets₀ start.count list₁ octets₁ tally₁
-      row_last k = octets_last (x.from b) y.holds mask v h row k
-
--- ---- the pieces
-
--- what stands behind NPar(2): nothing where bit 8 ended the block there, and else SPar(2) and its NPar(3) blocks
-module _ (c : ℕ) (l : List ℕ) (e : ℕ) where
-  pub group_ended : ended l e ≡ true → (group_codes c l e ≡ []) × (group_behind l e ≡ e)
-  unfolding group_codes group_behind
-  group_ended h = (rw h, rw h)
-
-  pub group_open : ended l e ≡ false
-      → (group_codes c l e ≡ sub_codes c (numbers 6 64 0 l e) l (behind 64 l e)) × (group_behind l e ≡ subs_behind (length (numbers 6 64 0 l e)) l (behind 64 l e))
-  unfolding group_codes group_behind
-  group_open h = (rw h, rw h)
-
--- a field, behind n codes: NPar(1), and behind it SPar(1), which ends before place v, and its Par(2) blocks; its codes are few
-module _ (b : ℕ) (l : List ℕ) (at n : ℕ) where
-  field_room : length l ≤ 64 → n ≤ most_of_field → n + length (field_codes b l at) ≤ most_codes
-  field_room h k = omega (arith, codes_few b l at)
-
-  pub field_room_one : length l ≤ 64 → n ≤ most_of_field → n + length (numbers 7 128 b l at) ≤ most_codes
-  unfolding field_codes
-  field_room_one h k = room_first (numbers 7 128 b l at) (rest_codes b l (behind 128 l at)) n (field_room h k)
-
-  module _ {list₀ octets₀ list₁ octets₁ : List ℕ} {r : Tally} (x : Fills (numbers 7 128 b l at) (behind 128 l at) list₀ octets₀ n list₁ octets₁ r) {v : ℕ} (e : v ≡ behind 128 l r.at) where
-    pub field_room_two : length l ≤ 64 → n ≤ most_of_field → r.count + length (par_codes b (numbers 7 128 0 l r.at) l v) ≤ most_codes
-    unfolding field_codes rest_codes
-    field_room_two h k = rw e (room_behind x (rest_codes b l) (field_room h k))
-
-    pub field_stores : {list₂ octets₂ : List ℕ} {f : ℕ} {u : Tally} → Fills (par_codes b (numbers 7 128 0 l r.at) l v) f list₁ octets₁ r.count list₂ octets₂ u
-        → Stores (field_codes b l at) list₀ octets₀ n list₂ octets₂ u.count
-    unfolding field_codes rest_codes
-    field_stores y = stores_then x.stores (rw (e, x.at) at y.stores)
+pub others_small : {q : ℕ} {all qs : List ℕ} → all ≡ q ∷ qs → AllBelow 512 all → AllBelow 512 qs
+unfolding AllBelow
+others_small e h = (rw e at h).1

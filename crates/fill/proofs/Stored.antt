@@ -1,16 +1,16 @@
--- Codes stored run after run in two lists, and how far reading has come.
+-- Codes stored run after run in one list.
 -- Assumes nothing.
 use Prim.Native.Nat.{ℕ, ◌+◌, ◌*◌, ◌≤◌}
 use mathlib.Core.Path.{◌≡◌, refl, sym, ap, ◌∙◌}
 use mathlib.Core.List.{List, [], ◌∷◌, ◌++◌}
 use native.Mathlib.Omega.{arith}
 use lib.ListN.{length, set, length-append}
-use lib.Seq.{sets, length-sets}
+use lib.Seq.{sets}
 use Rattle.octets.specs.Lay.{over}
-use Rattle.fill.specs.Storing.{Stores, Fills}
 use Rattle.tree.specs.Fields.{fours}
+use Rattle.tree.proofs.Filling.{sets_append, sets_over}
+use Rattle.fill.specs.Storing.{set_number, set_fours, laid, Fills}
 use Rattle.fill.specs.declared.Tally.{Tally}
-use Rattle.tree.proofs.Filling.{sets_append, sets_out, sets_over}
 
 -- four octets to a code
 pub fours-length : (cs : List ℕ) → length (fours cs) ≡ 4 * length cs
@@ -18,68 +18,92 @@ unfolding fours
 fours-length [] = refl
 fours-length (c ∷ cs) = omega (arith, fours-length cs)
 
-fours-append : (a b : List ℕ) → fours (a ++ b) ≡ fours a ++ fours b
-unfolding fours
-fours-append [] b = refl
-fours-append (c ∷ a) b = rw (fours-append a b)
+-- two runs are stored one behind the other
+pub laid_append : {A : Type 0} (stored : List A → ℕ → ℕ → List A) (list : List A) (n : ℕ) (cs ds : List ℕ)
+    → laid stored list n (cs ++ ds) ≡ laid stored (laid stored list n cs) (n + length cs) ds
+unfolding laid
+laid_append stored list n [] ds = ap (λ m. laid stored list m ds) (omega arith)
+laid_append stored list n (c ∷ cs) ds = laid_append stored (stored list n c) (n + 1) cs ds ∙ ap (λ m. laid stored (laid stored (stored list n c) (n + 1) cs) m ds) (omega arith)
 
--- nothing is stored
-pub stores_none : (list octets : List ℕ) (n : ℕ) → Stores [] list octets n list octets n
-unfolding fours
-stores_none list octets n = record { count = omega arith; list = refl; octets = refl }
+-- numbers from the front are laid over a list, and so are octets
+laid_numbers : (list : List ℕ) (n : ℕ) (cs : List ℕ) → laid set_number list n cs ≡ sets list n cs
+unfolding laid
+laid_numbers list n [] = refl
+laid_numbers list n (c ∷ cs) = laid_numbers (set list n c) (n + 1) cs ∙ ap (λ (k : ℕ). sets (set list n c) k cs) (omega arith)
 
-pub fills_none : {e f : ℕ} → e ≡ f → (list octets : List ℕ) (n : ℕ) → Fills [] f list octets n list octets (record { count = n; at = e })
-fills_none h list octets n = record { stores = stores_none list octets n; at = h }
+laid_fours : (list : List ℕ) (n : ℕ) (cs : List ℕ) → laid set_fours list n cs ≡ sets list (4 * n) (fours cs)
+unfolding laid fours
+laid_fours list n [] = refl
+laid_fours list n (c ∷ cs) =
+    let place : 4 * (n + 1) ≡ 4 * n + length (fours (c ∷ [])) = omega (arith, fours-length (c ∷ [])) in
+    laid_fours (set_fours list n c) (n + 1) cs ∙ rw place (sym (sets_append list (4 * n) (fours (c ∷ [])) (fours cs)))
 
--- one code is stored
-pub stores_one : {list₀ octets₀ list₁ octets₁ : List ℕ} {n c : ℕ} → list₁ ≡ set list₀ n c → octets₁ ≡ sets octets₀ (4 * n) (fours (c ∷ []))
-    → Stores (c ∷ []) list₀ octets₀ n list₁ octets₁ (n + 1)
-stores_one h k = record { count = refl; list = h; octets = k }
+pub numbers_over : (list cs : List ℕ) → laid set_number list 0 cs ≡ over cs list
+numbers_over list cs = laid_numbers list 0 cs ∙ sets_over cs list
 
--- codes are stored in a list of numbers alone, beside one without room
-pub stores_numbers : {cs list₀ octets list₁ : List ℕ} {n r : ℕ} → r ≡ n + length cs → list₁ ≡ sets list₀ n cs → length octets ≡ 0 → Stores cs list₀ octets n list₁ octets r
-stores_numbers {cs} {octets = octets} {n = n} h k z = record { count = h; list = k; octets = sym (sets_out octets (4 * n) (fours cs) (omega arith)) }
+pub fours_over : (list cs : List ℕ) → laid set_fours list 0 cs ≡ over (fours cs) list
+fours_over list cs = laid_fours list 0 cs ∙ sets_over (fours cs) list
 
--- what is stored changes no length
-module _ {cs list₀ octets₀ : List ℕ} {n : ℕ} {list₁ octets₁ : List ℕ} {r : ℕ} (x : Stores cs list₀ octets₀ n list₁ octets₁ r) where
-  pub list_size_lem : length list₁ ≡ length list₀
-  list_size_lem = ap length x.list ∙ length-sets list₀ n cs
+-- of the codes cs, behind the n before, those to come are todo, to be read up to the place to
+pub record Going {A : Type 0} (stored : List A → ℕ → ℕ → List A) (cs : List ℕ) (end : ℕ) (list₀ : List A) (n : ℕ) (todo : List ℕ) (to : ℕ) (list : List A) (count : ℕ) : Type 0 where
+  pub same : laid stored list count todo ≡ laid stored list₀ n cs
+  pub sum : count + length todo ≡ n + length cs
+  pub at : to ≡ end
 
-  pub octets_size : length octets₁ ≡ length octets₀
-  octets_size = ap length x.octets ∙ length-sets octets₀ (4 * n) (fours cs)
+module _ {A : Type 0} {stored : List A → ℕ → ℕ → List A} {cs : List ℕ} {end : ℕ} {list₀ : List A} {n : ℕ} where
+  pub going_one : {code : ℕ} {todo : List ℕ} {to : ℕ} {list list₁ : List A} {count : ℕ} → list₁ ≡ stored list count code → Going stored cs end list₀ n (code ∷ todo) to list count
+      → Going stored cs end list₀ n todo to list₁ (count + 1)
+  unfolding laid
+  going_one h g = record { same = rw h g.same; sum = omega (arith, g.sum); at = g.at }
+
+  pub going_run : (ones todo : List ℕ) {to : ℕ} {list list₁ : List A} {count r : ℕ} → r ≡ count + length ones → list₁ ≡ laid stored list count ones → Going stored cs end list₀ n (ones ++ todo) to list count
+      → Going stored cs end list₀ n todo to list₁ r
+  going_run ones todo {list = list} {count = count} e h g =
+      record {
+        same = rw (h, e) (sym (laid_append stored list count ones todo) ∙ g.same);
+        sum = omega (arith, e, g.sum, length-append ones todo);
+        at = g.at;
+      }
+
+  pub going_turn : {ones todo : List ℕ} {place to : ℕ} {list list₁ : List A} {count : ℕ} {r : Tally} → Going stored cs end list₀ n (ones ++ todo) to list count → Fills stored ones place list count list₁ r
+      → Going stored cs end list₀ n todo to list₁ r.count
+  going_turn {ones} {todo} g f = going_run ones todo f.count f.list g
+
+  pub going_room : (ones todo : List ℕ) {to : ℕ} {list : List A} {count most : ℕ} → Going stored cs end list₀ n (ones ++ todo) to list count → n + length cs ≤ most → count + length ones ≤ most
+  going_room ones todo g h = omega (arith, g.sum, length-append ones todo)
+
+  pub going_end : {to : ℕ} {list : List A} {r : Tally} → Going stored cs end list₀ n [] to list r.count → r.at ≡ to → Fills stored cs end list₀ n list r
+  unfolding laid
+  going_end g h = record { count = omega (arith, g.sum); list = g.same; at = h ∙ g.at }
 
 -- what is stored in two steps
-pub stores_then : {a b list₀ octets₀ list₁ octets₁ list₂ octets₂ : List ℕ} {n r v : ℕ} → Stores a list₀ octets₀ n list₁ octets₁ r → Stores b list₁ octets₁ r list₂ octets₂ v
-    → Stores (a ++ b) list₀ octets₀ n list₂ octets₂ v
-stores_then {a} {b} {list₀} {octets₀} {n = n} {r} x y =
-    let place : 4 * r ≡ 4 * n + length (fours a) = omega (arith, x.count, fours-length a) in
+pub fills_then : {A : Type 0} {stored : List A → ℕ → ℕ → List A} {cs ds : List ℕ} {place end : ℕ} {list₀ list₁ list₂ : List A} {n : ℕ} {r v : Tally} → Fills stored cs place list₀ n list₁ r
+    → Fills stored ds end list₁ r.count list₂ v → Fills stored (cs ++ ds) end list₀ n list₂ v
+fills_then {stored = stored} {cs} {ds} {list₀ = list₀} {n = n} f h =
     record {
-      count = omega (arith, x.count, y.count, length-append a b);
-      list = y.list ∙ rw (x.count, x.list) (sym (sets_append list₀ n a b));
-      octets = y.octets ∙ rw (place, x.octets, fours-append a b) (sym (sets_append octets₀ (4 * n) (fours a) (fours b)));
+      count = omega (arith, f.count, h.count, length-append cs ds);
+      list = h.list ∙ rw (f.list, f.count) (sym (laid_append stored list₀ n cs ds));
+      at = h.at;
     }
 
-pub stores_fills : {a b list₀ octets₀ list₁ octets₁ list₂ octets₂ : List ℕ} {n r f : ℕ} {v : Tally} → Stores a list₀ octets₀ n list₁ octets₁ r
-    → Fills b f list₁ octets₁ r list₂ octets₂ v → Fills (a ++ b) f list₀ octets₀ n list₂ octets₂ v
-stores_fills x y = record { stores = stores_then x y.stores; at = y.at }
+-- over a list without room nothing is laid
+pub over_none : (cs d : List ℕ) → length d ≡ 0 → d ≡ over cs d
+unfolding over
+over_none [] d h = refl
+over_none (c ∷ cs) [] h = refl
+over_none (c ∷ cs) (x ∷ d) h = absurd (omega arith)
 
--- where two runs are few enough the first is
-pub room_first : (a b : List ℕ) (n : ℕ) {most : ℕ} → n + length (a ++ b) ≤ most → n + length a ≤ most
-room_first a b n h = omega (arith, length-append a b)
+-- nothing is stored
+pub fills_none : {A : Type 0} {stored : List A → ℕ → ℕ → List A} (list : List A) (n e : ℕ) → Fills stored [] e list n list (record { count = n; at = e })
+unfolding laid
+fills_none list n e = record { count = omega arith; list = refl; at = refl }
 
--- behind what was stored: the codes b, and the place f behind them, of the place that reading has come to
-module _ {a : List ℕ} {e : ℕ} {list₀ octets₀ : List ℕ} {n : ℕ} {list₁ octets₁ : List ℕ} {r : Tally} (x : Fills a e list₀ octets₀ n list₁ octets₁ r) (b : ℕ → List ℕ) where
-  pub room_behind : {most : ℕ} → n + length (a ++ b e) ≤ most → r.count + length (b r.at) ≤ most
-  room_behind h = rw x.at (omega (arith, x.stores.count, length-append a (b e)))
+-- one code is stored
+pub fills_one : {A : Type 0} {stored : List A → ℕ → ℕ → List A} {list list₁ : List A} {n code e : ℕ} → list₁ ≡ stored list n code → Fills stored (code ∷ []) e list n list₁ (record { count = n + 1; at = e })
+unfolding laid
+fills_one h = record { count = omega arith; list = h; at = refl }
 
-  pub fills_behind : (f : ℕ → ℕ) {list₂ octets₂ : List ℕ} {v : Tally} → Fills (b r.at) (f r.at) list₁ octets₁ r.count list₂ octets₂ v
-      → Fills (a ++ b e) (f e) list₀ octets₀ n list₂ octets₂ v
-  fills_behind f y = stores_fills x.stores (rw x.at at y)
-
--- what is stored from the front of the lists is laid over them
-module _ {cs list₀ octets₀ list₁ octets₁ : List ℕ} {r : ℕ} (x : Stores cs list₀ octets₀ 0 list₁ octets₁ r) where
-  pub front_list : list₁ ≡ over cs list₀
-  front_list = x.list ∙ sets_over cs list₀
-
-  pub front_octets : octets₁ ≡ over (fours cs) octets₀
-  front_octets = x.octets ∙ sets_over (fours cs) octets₀
+-- codes are stored, and nothing is read
+pub fills_run : {A : Type 0} {stored : List A → ℕ → ℕ → List A} {cs : List ℕ} {list list₁ : List A} {n r e : ℕ} → (r ≡ n + length cs) × (list₁ ≡ laid stored list n cs)
+    → Fills stored cs e list n list₁ (record { count = r; at = e })
+fills_run h = record { count = h.0; list = h.1; at = refl }

@@ -18,24 +18,24 @@ use Rattle.fcs.specs.Division.{fcs}
 use Rattle.fcs.proofs.Registers.{fcs_octets}
 use Rattle.frame.specs.Reader.{Reading, refused, information, same, ahead, check, checked, read_told, read_reply, read_leaves, Reads}
 use Rattle.frame.specs.Content.{Stands}
-use Rattle.frame.specs.declared.FrameRead.{FrameRead}
-use Rattle.frame.specs.declared.FrameRead.TheVariants.{Octets}
+use Rattle.std.specs.Prelude.{Result, Ok}
+use Rattle.frame.specs.declared.FrameReadRefusal.{FrameReadRefusal}
 use Rattle.frame.proofs.Sights.{drop_take}
 
 -- a refusal's answer
-pub reads_refused : (x : Reading) (out : List ℕ) (k : ℕ) (r : FrameRead) → x ≡ refused k → read_told r ≡ read_reply (refused k) → Reads x out r out
+pub reads_refused : (x : Reading) (out : List ℕ) (k : ℕ) (r : Result ℕ FrameReadRefusal) → x ≡ refused k → read_told r ≡ read_reply (refused k) → Reads x out r out
 reads_refused x out k r e t = record { reply = t ∙ sym (ap read_reply e); output = sym (ap (λ (y : Reading). read_leaves y out) e) }
 
 -- the answer where information is given
-pub reads_given : (x : Reading) (os out₀ out₁ : List ℕ) (n : ℕ) → x ≡ information os → length os ≡ n → out₁ ≡ put os out₀ → Reads x out₀ (Octets n) out₁
+pub reads_given : (x : Reading) (os out₀ out₁ : List ℕ) (n : ℕ) → x ≡ information os → length os ≡ n → out₁ ≡ put os out₀ → Reads x out₀ (Ok n) out₁
 reads_given x os out₀ out₁ n e l o =
     record {
-      reply = ap (λ (m : ℕ). read_told (Octets m)) (sym l) ∙ sym (ap read_reply e);
+      reply = ap (λ (m : ℕ). read_told (Ok m)) (sym l) ∙ sym (ap read_reply e);
       output = o ∙ sym (ap (λ (y : Reading). read_leaves y out₀) e);
     }
 
 -- equal readings have one answer
-pub reads_as : {x y : Reading} {out₀ out₁ : List ℕ} {r : FrameRead} → x ≡ y → Reads y out₀ r out₁ → Reads x out₀ r out₁
+pub reads_as : {x y : Reading} {out₀ out₁ : List ℕ} {r : Result ℕ FrameReadRefusal} → x ≡ y → Reads y out₀ r out₁ → Reads x out₀ r out₁
 reads_as {out₀ = out₀} e a = record { reply = a.reply ∙ sym (ap read_reply e); output = a.output ∙ sym (ap (λ (z : Reading). read_leaves z out₀) e) }
 
 -- bits are the same as themselves, and the same only if equal

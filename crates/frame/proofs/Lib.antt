@@ -4,6 +4,7 @@ pub mod Zeros
 pub mod Pens
 pub mod Scanning
 pub mod Sights
+pub mod Ranges
 pub mod Every
 pub mod Starts
 pub mod Widening

@@ -12,13 +12,14 @@ use lib.Pow.{shr_lt}
 use Rattle.octets.specs.Bits.{oct_before}
 use Rattle.frame.specs.Stuffing.{stuffed}
 use Rattle.frame.specs.Pen.{low_bits, left_after}
-use Rattle.frame.specs.Quill.{Room, Puts, five_starts, Widens, left_of, Marks}
+use Rattle.frame.specs.Zeros.{five_starts, Widens}
+use Rattle.frame.specs.Quill.{Room, Puts, left_of, Marks}
 use Rattle.frame.specs.declared.Quill.{Quill}
 use Rattle.frame.specs.declared.Wide.{Wide}
-use Rattle.frame.specs.declared.Mark.{Mark}
 use Rattle.frame.proofs.Pens.{length_low_bits, low_bits_rest, low_bits_drop}
 use Rattle.frame.proofs.Zeros.{stuffed-append, left_append, low_bits_octet, Splits}
-use Rattle.frame.proofs.Quills.{puts_none, puts_then, room_then, room_less}
+use Rattle.frame.proofs.Pens.{ready_less}
+use Rattle.frame.proofs.Quills.{puts_none, puts_then, room_then}
 use Rattle.frame.proofs.Widening.{low_bits_append, zeroing_none, zeroing_end}
 
 -- ---- the last four bits sent
@@ -78,8 +79,8 @@ short_sent zero (true ∷ bs) h f = absurd (omega arith)
 short_sent (suc k) (true ∷ bs) h f = ap (λ (l : List Bool). true ∷ l) (short_sent k bs (omega arith) (omega arith))
 
 -- eight bits above the four lowest and those above them are all above the four lowest
-pub puts_wide : (word more : ℕ) {out₀ out₁ out₂ : List ℕ} {quill₀ quill₁ quill₂ : Quill} → Puts (low_bits 8 (word / 16 % 256)) out₀ quill₀ out₁ quill₁
-    → Puts (low_bits more (word / 4096)) out₁ quill₁ out₂ quill₂ → Puts (low_bits (8 + more) (word / 16)) out₀ quill₀ out₂ quill₂
+pub puts_wide : (word more : ℕ) {quill₀ quill₁ quill₂ : Quill} → Puts (low_bits 8 (word / 16 % 256)) quill₀ quill₁
+    → Puts (low_bits more (word / 4096)) quill₁ quill₂ → Puts (low_bits (8 + more) (word / 16)) quill₀ quill₂
 puts_wide word more x y =
     let e : word / 16 / 256 ≡ word / 4096 = omega arith in
     rw (low_bits_append 8 more (word / 16), ← (low_bits_rest 8 (word / 16)), e) (puts_then x y)
@@ -117,9 +118,9 @@ module _ (octet last : ℕ) (wide : Wide) (ho : octet < 256) (hl : last < 16) (z
       ∙ ap (left_after 4) twelve ∙ left_append 4 (low_bits 4 last) (oct_before octet [])
 
   -- it is put
-  pub marks_wide : {out₀ out₁ : List ℕ} {quill : Quill} (mark : Mark) → Puts (low_bits (8 + wide.more) (wide.word / 16)) out₀ quill out₁ mark.quill
-      → mark.last ≡ wide.word / 2 ^ (8 + wide.more) → Marks (oct_before octet []) out₀ (record { quill = quill; last = last }) out₁ mark
-  marks_wide mark p e =
+  pub marks_wide : {quill₀ quill₁ : Quill} {now : ℕ} → Puts (low_bits (8 + wide.more) (wide.word / 16)) quill₀ quill₁
+      → now ≡ wide.word / 2 ^ (8 + wide.more) → Marks (oct_before octet []) last quill₀ now quill₁
+  marks_wide p e =
       let n : 4 + (8 + wide.more) ≡ 12 + wide.more = omega arith in
       record {
         puts = rw wide_sent at p;
@@ -139,43 +140,44 @@ unfolding low_bits left_after
 left_none = refl
 
 -- what two steps put, one after the other
-marks_then : {a b : List Bool} {out₀ out₁ out₂ : List ℕ} {mark₀ mark₁ mark₂ : Mark} → Marks a out₀ mark₀ out₁ mark₁ → Marks b out₁ mark₁ out₂ mark₂ → Marks (a ++ b) out₀ mark₀ out₂ mark₂
-marks_then {a} {b} {mark₀ = mark₀} x y = record {
-  puts = rw (stuffed-append (left_of mark₀.last) a b, ← x.left) (puts_then x.puts y.puts);
+marks_then : {a b : List Bool} {last₀ last₁ last₂ : ℕ} {quill₀ quill₁ quill₂ : Quill} → Marks a last₀ quill₀ last₁ quill₁ → Marks b last₁ quill₁ last₂ quill₂
+    → Marks (a ++ b) last₀ quill₀ last₂ quill₂
+marks_then {a} {b} {last₀} x y = record {
+  puts = rw (stuffed-append (left_of last₀) a b, ← x.left) (puts_then x.puts y.puts);
   last = y.last;
-  left = y.left ∙ rw (left_append (left_of mark₀.last) a b, ← x.left);
+  left = y.left ∙ rw (left_append (left_of last₀) a b, ← x.left);
 }
 
 -- of the bits bs all but the last ones, todo, were put with the zeros that they need; there is room for the others
-pub record Marked (bs todo : List Bool) (out₀ : List ℕ) (mark₀ : Mark) (out : List ℕ) (mark : Mark) : Type 0 where
+pub record Marked (bs todo : List Bool) (last₀ : ℕ) (quill₀ : Quill) (last : ℕ) (quill : Quill) : Type 0 where
   pub done : List Bool
   pub split : done ++ todo ≡ bs
-  pub marks : Marks done out₀ mark₀ out mark
-  pub room : Room out mark.quill (length (stuffed (left_of mark.last) todo))
+  pub marks : Marks done last₀ quill₀ last quill
+  pub room : Room quill (length (stuffed (left_of last) todo))
 
 -- none were put yet
-pub marked_none : (bs : List Bool) (out : List ℕ) (mark : Mark) → (mark.last < 16) × Room out mark.quill (length (stuffed (left_of mark.last) bs)) → Marked bs bs out mark out mark
+pub marked_none : (bs : List Bool) (last : ℕ) (quill : Quill) → (last < 16) × Room quill (length (stuffed (left_of last) bs)) → Marked bs bs last quill last quill
 unfolding stuffed left_after
-marked_none bs out mark h = record {
+marked_none bs last quill h = record {
   done = [];
   split = refl;
-  marks = record { puts = puts_none h.1; last = h.0; left = refl };
+  marks = record { puts = puts_none quill; last = h.0; left = refl };
   room = h.1;
 }
 
-module _ {bs rest : List Bool} {out₀ out₁ : List ℕ} {mark₀ mark₁ : Mark} {a todo : List Bool} (e : Splits rest a todo) (x : Marked bs rest out₀ mark₀ out₁ mark₁) where
+module _ {bs rest : List Bool} {last₀ last₁ : ℕ} {quill₀ quill₁ : Quill} {a todo : List Bool} (e : Splits rest a todo) (x : Marked bs rest last₀ quill₀ last₁ quill₁) where
   -- the next bits with their zeros, and the bits behind them
-  next_length : length (stuffed (left_of mark₁.last) rest) ≡ length (stuffed (left_of mark₁.last) a) + length (stuffed (left_after (left_of mark₁.last) a) todo)
+  next_length : length (stuffed (left_of last₁) rest) ≡ length (stuffed (left_of last₁) a) + length (stuffed (left_after (left_of last₁) a) todo)
   next_length =
-      rw (e.parts, stuffed-append (left_of mark₁.last) a todo)
-      (length-append (stuffed (left_of mark₁.last) a) (stuffed (left_after (left_of mark₁.last) a) todo))
+      rw (e.parts, stuffed-append (left_of last₁) a todo)
+      (length-append (stuffed (left_of last₁) a) (stuffed (left_after (left_of last₁) a) todo))
 
   -- there is room for the next bits
-  pub marked_front : (mark₁.last < 16) × Room out₁ mark₁.quill (length (stuffed (left_of mark₁.last) a))
-  marked_front = (x.marks.last, room_less _ _ x.room (omega (arith, next_length)))
+  pub marked_front : (last₁ < 16) × Room quill₁ (length (stuffed (left_of last₁) a))
+  marked_front = (x.marks.last, ready_less _ _ x.room (omega (arith, next_length)))
 
   -- the next bits are put
-  pub marked_turn : {out₂ : List ℕ} {mark₂ : Mark} → Marks a out₁ mark₁ out₂ mark₂ → Marked bs todo out₀ mark₀ out₂ mark₂
+  pub marked_turn : {last₂ : ℕ} {quill₂ : Quill} → Marks a last₁ quill₁ last₂ quill₂ → Marked bs todo last₀ quill₀ last₂ quill₂
   marked_turn y = record {
     done = x.done ++ a;
     split = append_assoc x.done a todo ∙ (rw e.parts at x.split);
@@ -184,5 +186,5 @@ module _ {bs rest : List Bool} {out₀ out₁ : List ℕ} {mark₀ mark₁ : Mar
   }
 
 -- all were put
-pub marked_end : {bs : List Bool} {out₀ out₁ : List ℕ} {mark₀ mark₁ : Mark} → Marked bs [] out₀ mark₀ out₁ mark₁ → Marks bs out₀ mark₀ out₁ mark₁
+pub marked_end : {bs : List Bool} {last₀ last₁ : ℕ} {quill₀ quill₁ : Quill} → Marked bs [] last₀ quill₀ last₁ quill₁ → Marks bs last₀ quill₀ last₁ quill₁
 marked_end x = let e = sym (append-nil x.done) ∙ x.split in rw e at x.marks

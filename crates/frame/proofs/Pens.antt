@@ -15,8 +15,7 @@ use Rattle.octets.specs.Lay.{put}
 use Rattle.octets.proofs.Digits.{num-odd, number_append, number_take, number_drop}
 use Rattle.octets.proofs.Packing.{length_pack}
 use Rattle.frame.specs.Limits.{most_bits, frame_room}
-use Rattle.frame.specs.Pen.{low_bits, Holds, Ready, Adds}
-use Rattle.frame.specs.declared.Pen.{Pen}
+use Rattle.frame.specs.Pen.{Pen, low_bits, Holds, Ready, Adds}
 
 -- the w lowest bits of a number are w bits
 pub length_low_bits : (w v : ℕ) → length (low_bits w v) ≡ w
@@ -91,15 +90,15 @@ set_next n p o v h e = rw (pack_next n p, e) (rw (length_pack n p) at (set_put (
 abbrev pub both : Pen → ℕ → ℕ
 both pen v = pen.octet + v * 2 ^ (pen.at % 8) % 65536
 
--- one step: the w lowest bits of v
-module _ {out : List ℕ} {pen : Pen} {w v : ℕ} (p : (v < 2 ^ w) × (w ≤ 8) × Ready out pen w) where
+-- one step: the w lowest bits of v, where the pen's octet has no bit beyond its place
+module _ {out : List ℕ} {pen : Pen} {w v : ℕ} (low : pen.octet < 2 ^ (pen.at % 8)) (p : (v < 2 ^ w) × (w ≤ 8) × Ready out pen w) where
   -- no bit is shifted out of sixteen
   shifted : v * 2 ^ (pen.at % 8) % 65536 ≡ v * 2 ^ (pen.at % 8)
   shifted = shl_exact w (pen.at % 8) 16 p.0 (omega arith)
 
   -- both together have no bit beyond the place behind them
   both_lt : both pen v < 2 ^ (w + pen.at % 8)
-  both_lt = omega (arith, shifted, pow-add 2 w (pen.at % 8), digits_lt p.0 p.2.low)
+  both_lt = omega (arith, shifted, pow-add 2 w (pen.at % 8), digits_lt p.0 low)
 
   -- so they fit k bits, where that place does
   pub both_fits : (k : ℕ) → w + pen.at % 8 ≤ k → both pen v < 2 ^ k
@@ -113,11 +112,14 @@ module _ {out : List ℕ} {pen : Pen} {w v : ℕ} (p : (v < 2 ^ w) × (w ≤ 8) 
       ap number (drop-append-le n done (low_bits w v) (omega arith)) ∙ number_append (drop n done) (low_bits w v)
       ∙ rw (shifted, e, number_low_bits w v p.0, h.octet)
 
+  -- what is left of them behind a full octet has no bit beyond that place either
+  pub rest_fits : (k : ℕ) → w + pen.at % 8 ≤ k + 8 → both pen v / 256 < 2 ^ k
+  rest_fits k h = shr_lt k 8 (both_fits (k + 8) h)
+
   -- bits that do not fill the octet stay in the pen
   pub adds_stay : pen.at % 8 + w < 8 → Adds (low_bits w v) out pen out (record { at = pen.at + w; octet = both pen v })
   adds_stay less = record {
     at = ap (λ (n : ℕ). pen.at + n) (sym (length_low_bits w v));
-    low = let e : (pen.at + w) % 8 ≡ w + pen.at % 8 = omega arith in rw e both_lt;
     size = refl;
     adds = λ o done l h.
         let k : length (done ++ low_bits w v) ≡ length done + w = length-append done (low_bits w v) ∙ ap (λ (n : ℕ). length done + n) (length_low_bits w v) in
@@ -133,7 +135,6 @@ module _ {out : List ℕ} {pen : Pen} {w v : ℕ} (p : (v < 2 ^ w) × (w ≤ 8) 
   pub adds_store : 8 ≤ pen.at % 8 + w → Adds (low_bits w v) out pen (set out (pen.at / 8) (both pen v % 256)) (record { at = pen.at + w; octet = both pen v / 256 })
   adds_store full = record {
     at = ap (λ (n : ℕ). pen.at + n) (sym (length_low_bits w v));
-    low = let e : w + pen.at % 8 ≡ (pen.at + w) % 8 + 8 = omega arith in shr_lt ((pen.at + w) % 8) 8 (rw e at both_lt);
     size = length-set out (pen.at / 8) (both pen v % 256);
     adds = λ o done l h.
         let k : length (done ++ low_bits w v) ≡ length done + w = length-append done (low_bits w v) ∙ ap (λ (n : ℕ). length done + n) (length_low_bits w v) in
@@ -151,25 +152,24 @@ module _ {out : List ℕ} {pen : Pen} {w v : ℕ} (p : (v < 2 ^ w) × (w ≤ 8) 
   }
 
 -- nothing is added where nothing is put
-pub adds_none : (out : List ℕ) (pen : Pen) → pen.octet < 2 ^ (pen.at % 8) → Adds [] out pen out pen
-adds_none out pen low = record { at = omega arith; low = low; size = refl; adds = λ o done l h. rw (append-nil done) h }
+pub adds_none : (out : List ℕ) (pen : Pen) → Adds [] out pen out pen
+adds_none out pen = record { at = omega arith; size = refl; adds = λ o done l h. rw (append-nil done) h }
 
 -- what two steps add, one after the other
 pub adds_then : {a b : List Bool} {out₀ out₁ out₂ : List ℕ} {pen₀ pen₁ pen₂ : Pen} → Adds a out₀ pen₀ out₁ pen₁ → Adds b out₁ pen₁ out₂ pen₂ → Adds (a ++ b) out₀ pen₀ out₂ pen₂
 adds_then {a} {b} x y = record {
   at = omega (arith, x.at, y.at, length-append a b);
-  low = y.low;
   size = y.size ∙ x.size;
   adds = λ o done l h. rw (append_assoc done a b) at (y.adds o (done ++ a) (l ∙ sym x.size) (x.adds o done l h));
 }
 
 -- what room is left behind a step
 pub ready_then : {a : List Bool} {out₀ out₁ : List ℕ} {pen₀ pen₁ : Pen} (n m : ℕ) → Ready out₀ pen₀ n → Adds a out₀ pen₀ out₁ pen₁ → length a + m ≤ n → Ready out₁ pen₁ m
-ready_then n m r x h = record { low = x.low; fits = omega (arith, r.fits, x.at, x.size); few = omega (arith, r.few, x.at) }
+ready_then n m r x h = record { fits = omega (arith, r.fits, x.at, x.size); few = omega (arith, r.few, x.at) }
 
 -- where there is room for n bits there is room for fewer
 pub ready_less : {out : List ℕ} {pen : Pen} (n m : ℕ) → Ready out pen n → m ≤ n → Ready out pen m
-ready_less n m r h = record { low = r.low; fits = omega (arith, r.fits); few = omega (arith, r.few) }
+ready_less n m r h = record { fits = omega (arith, r.fits); few = omega (arith, r.few) }
 
 -- the pen at the start of an output
 abbrev pub start : Pen
@@ -177,7 +177,7 @@ start = record { at = 0; octet = 0 }
 
 -- an output of 88 octets has room for a run
 pub ready_start : (out : List ℕ) → frame_room ≤ length out → Ready out start most_bits
-ready_start out h = record { low = omega arith; fits = omega arith; few = omega arith }
+ready_start out h = record { fits = omega arith; few = omega arith }
 
 -- what is added from the start on is all that is held
 pub holds_all : {bs : List Bool} {o out : List ℕ} {pen : Pen} → Adds bs o start out pen → Holds o bs out pen

@@ -15,13 +15,13 @@ use Rattle.octets.specs.Bits.{bits, number, odd}
 use Rattle.octets.specs.Places.{pick}
 use Rattle.octets.proofs.Laws.{length_bits}
 use Rattle.octets.proofs.Digits.{octet_take}
+use Rattle.std.specs.Prelude.{Option, Some, None}
 use Rattle.frame.specs.Stuffing.{flag, stuffed, uncut, cut_into, content_from}
 use Rattle.frame.specs.Pen.{low_bits}
 use Rattle.frame.specs.Inner.{taken, left_behind, kept_behind, takens, lefts_behind, kepts_behind, NoSix, closes}
 use Rattle.frame.specs.Content.{Keeps, left_told, kept_told, Passes, SixAt, Ends, Finds}
 use Rattle.frame.specs.declared.Kept.{Kept}
 use Rattle.frame.specs.declared.Found.{Found}
-use Rattle.frame.specs.declared.Found.TheVariants.{Nothing, Upto}
 use Rattle.frame.proofs.Transparency.{content_is}
 use Rattle.frame.proofs.Scanning.{pick_cutting, scan, scan_is}
 use Rattle.frame.proofs.Sights.{length_run, drop_take}
@@ -213,17 +213,17 @@ module _ (B : List Bool) (start : ℕ) (plain : List ℕ) (kept : Kept) (t at : 
         rw (s, ← drop-drop (length (stuffed 4 cs)) start B, d) (drop_at (stuffed 4 cs) r (length (stuffed 4 cs)) refl)
 
   -- what `end_content` found is the content
-  found_end : (count : ℕ) (plain' : List ℕ) (found : Found) (closing : Bool) → count ≡ length B → closes (kept_told t) (drop (at + 1) B) ≡ closing
+  found_end : (count : ℕ) (plain' : List ℕ) (found : Option Found) (closing : Bool) → count ≡ length B → closes (kept_told t) (drop (at + 1) B) ≡ closing
       → Ends (drop (at + 1) B) at plain kept (kept_told t) plain' found → Finds (content_from 5 (drop start B)) B count plain' found
   found_end count plain' found false hc c e =
-      let f : found ≡ Nothing = e.answer ∙ ap (λ (t : Bool). pick t (Upto (kept.size - 6) (at - 6)) Nothing) c in
+      let f : found ≡ None = e.answer ∙ ap (λ (t : Bool). pick t (Some (record { bits = kept.size - 6; next = at - 6 })) None) c in
       rw f (go (dec_lt at (length B)))
     where
       go : Dec (at < length B) → content_from 5 (drop start B) ≡ uncut
       go (yes y) = sym (rw c at (six_is y))
       go (no n) = lined_end B start plain kept t at now (omega arith)
   found_end count plain' found true hc c e =
-      let f : found ≡ Upto (kept.size - 6) (at - 6) = e.answer ∙ ap (λ (t : Bool). pick t (Upto (kept.size - 6) (at - 6)) Nothing) c in
+      let f : found ≡ Some (record { bits = kept.size - 6; next = at - 6 }) = e.answer ∙ ap (λ (t : Bool). pick t (Some (record { bits = kept.size - 6; next = at - 6 })) None) c in
       let some = closes_some (kept_told t) (drop (at + 1) B) c in
       let h : at < length B = omega (arith, length-drop (at + 1) B) in
       let n = length now.done - 6 in
@@ -240,7 +240,7 @@ module _ (B : List Bool) (start : ℕ) (plain : List ℕ) (kept : Kept) (t at : 
         within = omega arith;
       })
 
-  pub found_content : (count : ℕ) (plain' : List ℕ) (found : Found) → count ≡ length B → Ends (drop (at + 1) B) at plain kept (kept_told t) plain' found
+  pub found_content : (count : ℕ) (plain' : List ℕ) (found : Option Found) → count ≡ length B → Ends (drop (at + 1) B) at plain kept (kept_told t) plain' found
       → Finds (content_from 5 (drop start B)) B count plain' found
   found_content count plain' found hc e = found_end count plain' found (closes (kept_told t) (drop (at + 1) B)) hc refl e
 
@@ -267,9 +267,6 @@ abbrev pub with_octet : ℕ → ℕ → ℕ
 with_octet line x = line / 256 + x * 16777216 % 4294967296
 
 module _ (line x : ℕ) (hl : line < 4294967296) (hx : x < 256) where
-  pub line_fits : with_octet line x < 4294967296
-  line_fits = omega arith
-
   line_window : with_octet line x / 8192 % 2048 ≡ line / 2097152
   line_window = omega arith
 
@@ -306,7 +303,7 @@ module _ (s : List ℕ) (count start at line x : ℕ) (hc : count ≤ length s *
     pub six_kept : real ≡ true → (6 ≤ kept₁.size) × (6 ≤ at + p)
     six_kept e = lined_six B start plain₁ kept₁ (w / 2 ^ p % 2048) (at + p) upto g.0.left (six_one B start w at meets p real g.0) (sym g.0.kept ∙ e)
 
-    pub six_found : {plain₂ : List ℕ} {found : Found} → Ends (drop (at + p + 1) B) (at + p) plain₁ kept₁ real plain₂ found → Finds (content_from 5 (drop start B)) B count plain₂ found
+    pub six_found : {plain₂ : List ℕ} {found : Option Found} → Ends (drop (at + p + 1) B) (at + p) plain₁ kept₁ real plain₂ found → Finds (content_from 5 (drop start B)) B count plain₂ found
     six_found {plain₂} {found} e =
         found_content B start plain₁ kept₁ (w / 2 ^ p % 2048) (at + p) upto g.0.left (six_one B start w at meets p real g.0) count plain₂ found (sym (length_run s count hc))
         (rw g.0.kept at e)

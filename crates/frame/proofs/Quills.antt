@@ -1,79 +1,83 @@
 -- Bits put by a quill: it stands where a pen does, so what a step of any width adds is known of that pen; and what room is left.
 -- Assumes nothing.
 use Prim.Native.Nat.{ℕ, suc, ◌+◌, ◌-◌, ◌*◌, ◌/◌, ◌%◌, ◌^◌, ◌<◌, ◌≤◌}
-use mathlib.Core.Path.{◌≡◌}
+use mathlib.Core.Path.{◌≡◌, refl, sym, ◌∙◌}
 use mathlib.Core.Bool.{Bool}
 use mathlib.Core.List.{List, [], ◌++◌}
 use native.Mathlib.Omega.{arith}
 use lib.ListN.{length, set}
-use lib.Pow.{pow_mono, shl_exact}
+use lib.Pow.{shl_exact}
 use Rattle.frame.specs.Frame.{flags}
-use Rattle.frame.specs.Pen.{low_bits}
+use Rattle.octets.specs.Bits.{packed}
+use Rattle.octets.specs.Lay.{put}
+use Rattle.frame.specs.Pen.{low_bits, Holds, Adds}
 use Rattle.frame.specs.Quill.{pen_of, Room, Puts}
 use Rattle.frame.specs.declared.Quill.{Quill}
-use Rattle.frame.proofs.Pens.{both, both_fits, adds_stay, adds_store, adds_none, adds_then, ready_then, ready_less}
+use Rattle.frame.proofs.Pens.{both, both_fits, rest_fits, adds_stay, adds_store, adds_none, adds_then, ready_then, last_stored, last_full}
 use Rattle.frame.proofs.Zeros.{flags_turn}
 
 -- the quill's word and a value behind it
 abbrev pub joined : Quill → ℕ → ℕ
 joined quill v = quill.word + v * 2 ^ quill.held % 4294967296
 
--- one step: the w lowest bits of v
-module _ {out : List ℕ} {quill : Quill} {w v : ℕ} (p : (v < 2 ^ w) × (w ≤ 8) × Room out quill w) where
-  bit_place : (quill.at * 8 + quill.held) % 8 ≡ quill.held
-  bit_place = omega (arith, p.2.held)
+-- the pen's place in its octet, and that octet's place
+bit_place : (quill : Quill) → (quill.at * 8 + quill.held) % 8 ≡ quill.held
+bit_place quill = omega (arith, quill.few)
 
-  octet_place : (quill.at * 8 + quill.held) / 8 ≡ quill.at
-  octet_place = omega (arith, p.2.held)
+octet_place : (quill : Quill) → (quill.at * 8 + quill.held) / 8 ≡ quill.at
+octet_place quill = omega (arith, quill.few)
+
+-- one step: the w lowest bits of v
+module _ (quill : Quill) {w v : ℕ} (p : (v < 2 ^ w) × (w ≤ 8) × Room quill w) where
+  low : (pen_of quill).octet < 2 ^ ((pen_of quill).at % 8)
+  low = rw (bit_place quill) quill.low
 
   joined_both : both (pen_of quill) v ≡ joined quill v
   joined_both =
-      let a : v * 2 ^ quill.held % 65536 ≡ v * 2 ^ quill.held = shl_exact w quill.held 16 p.0 (omega (arith, p.2.held)) in
-      let b : v * 2 ^ quill.held % 4294967296 ≡ v * 2 ^ quill.held = shl_exact w quill.held 32 p.0 (omega (arith, p.2.held)) in
-      rw (bit_place, a, b)
+      let a : v * 2 ^ quill.held % 65536 ≡ v * 2 ^ quill.held = shl_exact w quill.held 16 p.0 (omega (arith, quill.few)) in
+      let b : v * 2 ^ quill.held % 4294967296 ≡ v * 2 ^ quill.held = shl_exact w quill.held 32 p.0 (omega (arith, quill.few)) in
+      rw (bit_place quill, a, b)
 
-  pub joined_fits : joined quill v < 65536
-  joined_fits = rw (← joined_both) (both_fits (p.0, p.1, p.2.ready) 16 (omega (arith, p.1)))
+  -- both together have no bit beyond the place behind them, and what is left behind a full octet neither
+  pub joined_fits : (k : ℕ) → quill.held + w ≤ k → joined quill v < 2 ^ k
+  joined_fits k h = rw (← joined_both) (both_fits low p k (omega (arith, bit_place quill)))
+
+  pub joined_rest : (k : ℕ) → quill.held + w ≤ k + 8 → joined quill v / 256 < 2 ^ k
+  joined_rest k h = rw (← joined_both) (rest_fits low p k (omega (arith, bit_place quill)))
 
   -- bits that do not fill the octet stay in the quill
-  pub puts_stay : quill.held + w < 8 → Puts (low_bits w v) out quill out (record { at = quill.at; word = joined quill v; held = quill.held + w })
+  pub puts_stay : quill.held + w < 8 → Adds (low_bits w v) quill.out.now (pen_of quill) quill.out.now (record { at = quill.at * 8 + (quill.held + w); octet = joined quill v })
   puts_stay less =
       let e : quill.at * 8 + quill.held + w ≡ quill.at * 8 + (quill.held + w) = omega arith in
-      record {
-        held = less;
-        adds = rw (e, joined_both) at (adds_stay (p.0, p.1, p.2.ready) (omega (arith, bit_place)));
-      }
+      rw (e, joined_both) at (adds_stay low p (omega (arith, bit_place quill)))
 
   -- where they fill it, it is stored, and the quill keeps the others
-  pub puts_store : 8 ≤ quill.held + w → Puts (low_bits w v) out quill (set out quill.at (joined quill v % 256)) (record { at = quill.at + 1; word = joined quill v / 256; held = quill.held + w - 8 })
+  pub puts_store : 8 ≤ quill.held + w
+      → Adds (low_bits w v) quill.out.now (pen_of quill) (set quill.out.now quill.at (joined quill v % 256)) (record { at = (quill.at + 1) * 8 + (quill.held + w - 8); octet = joined quill v / 256 })
   puts_store full =
       let e : quill.at * 8 + quill.held + w ≡ (quill.at + 1) * 8 + (quill.held + w - 8) = omega arith in
-      record {
-        held = omega (arith, p.1, p.2.held);
-        adds = rw (octet_place, e, joined_both) at (adds_store (p.0, p.1, p.2.ready) (omega (arith, bit_place)));
-      }
-
--- less than an octet is held
-pub word_octet : {out : List ℕ} {quill : Quill} {n : ℕ} → Room out quill n → quill.word < 256
-word_octet {quill = quill} r = let h : (quill.at * 8 + quill.held) % 8 ≤ 8 = omega arith in omega (arith, r.ready.low, pow_mono h)
+      rw (octet_place quill, e, joined_both) at (adds_store low p (omega (arith, bit_place quill)))
 
 -- what two steps put, one after the other
-pub puts_then : {a b : List Bool} {out₀ out₁ out₂ : List ℕ} {quill₀ quill₁ quill₂ : Quill} → Puts a out₀ quill₀ out₁ quill₁ → Puts b out₁ quill₁ out₂ quill₂ → Puts (a ++ b) out₀ quill₀ out₂ quill₂
-puts_then x y = record { held = y.held; adds = adds_then x.adds y.adds }
+pub puts_then : {a b : List Bool} {quill₀ quill₁ quill₂ : Quill} → Puts a quill₀ quill₁ → Puts b quill₁ quill₂ → Puts (a ++ b) quill₀ quill₂
+puts_then x y = record { same = y.same ∙ x.same; adds = adds_then x.adds y.adds }
 
 -- what room is left behind a step
-pub room_then : {a : List Bool} {out₀ out₁ : List ℕ} {quill₀ quill₁ : Quill} (n m : ℕ) → Room out₀ quill₀ n → Puts a out₀ quill₀ out₁ quill₁ → length a + m ≤ n → Room out₁ quill₁ m
-room_then n m r x h = record { held = x.held; ready = ready_then n m r.ready x.adds h }
-
--- where there is room for n bits there is room for fewer
-pub room_less : {out : List ℕ} {quill : Quill} (n m : ℕ) → Room out quill n → m ≤ n → Room out quill m
-room_less n m r h = record { held = r.held; ready = ready_less n m r.ready h }
+pub room_then : {a : List Bool} {quill₀ quill₁ : Quill} (n m : ℕ) → Room quill₀ n → Puts a quill₀ quill₁ → length a + m ≤ n → Room quill₁ m
+room_then n m r x h = ready_then n m r x.adds h
 
 -- nothing was put yet
-pub puts_none : {out : List ℕ} {quill : Quill} {n : ℕ} → Room out quill n → Puts [] out quill out quill
-puts_none {out} {quill} r = record { held = r.held; adds = adds_none out (pen_of quill) r.ready.low }
+pub puts_none : (quill : Quill) → Puts [] quill quill
+puts_none quill = record { same = refl; adds = adds_none quill.out.now (pen_of quill) }
 
 -- a flag is put behind k of them
-pub puts_flag : (k : ℕ) {out₀ out₁ out₂ : List ℕ} {quill₀ quill₁ quill₂ : Quill} → Puts (flags k) out₀ quill₀ out₁ quill₁ → Puts (low_bits 8 126) out₁ quill₁ out₂ quill₂
-    → Puts (flags (suc k)) out₀ quill₀ out₂ quill₂
-puts_flag k x y = record { held = y.held; adds = flags_turn k x.adds y.adds }
+pub puts_flag : (k : ℕ) {quill₀ quill₁ quill₂ : Quill} → Puts (flags k) quill₀ quill₁ → Puts (low_bits 8 126) quill₁ quill₂ → Puts (flags (suc k)) quill₀ quill₂
+puts_flag k x y = record { same = y.same ∙ x.same; adds = flags_turn k x.adds y.adds }
+
+-- an octet that the last bits did not fill is stored, and where they filled it all are
+module _ (quill : Quill) (r : Room quill 0) (o : List ℕ) (bs : List Bool) (l : length o ≡ length quill.out.now) (h : Holds o bs quill.out.now (pen_of quill)) where
+  pub quill_stored : (quill.held ≡ 0 → ⊥) → set quill.out.now quill.at quill.word ≡ put (packed bs) o
+  quill_stored some = rw (octet_place quill) at (last_stored r (λ e. some (sym (bit_place quill) ∙ e)) o bs l h)
+
+  pub quill_full : quill.held ≡ 0 → quill.out.now ≡ put (packed bs) o
+  quill_full none = last_full r (bit_place quill ∙ none) o bs l h

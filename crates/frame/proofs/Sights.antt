@@ -15,11 +15,16 @@ use Rattle.octets.proofs.Laws.{length_bits}
 use Rattle.octets.proofs.Digits.{number_inj}
 use Rattle.frame.specs.Stuffing.{flag, starts}
 use Rattle.frame.specs.Frame.{flags_at}
+use Rattle.frame.specs.Run.{seen}
+use Rattle.frame.specs.declared.Run.{Run}
 use Rattle.frame.proofs.Scanning.{starts_is}
 
 -- the first bits of a run
 pub length_run : (s : List ℕ) (count : ℕ) → count ≤ length s * 8 → length (take count (bits s)) ≡ count
 length_run s count h = length-take-le count (bits s) (omega (arith, length_bits s))
+
+pub length_seen : (run : Run) → length (seen run) ≡ run.count
+length_seen run = length_run run.octets.now run.count run.held
 
 -- what stands behind a place of the first n
 pub drop_take : (a n : ℕ) (l : List Bool) → drop a (take n l) ≡ take (n - a) (drop a l)

@@ -11,7 +11,7 @@ use lib.Dec.{eqb}
 use lib.Pow.{shr-shr}
 use Rattle.octets.specs.Bits.{odd}
 use Rattle.octets.specs.Places.{both}
-use Rattle.frame.specs.Quill.{pairs, five_starts}
+use Rattle.frame.specs.Zeros.{pairs, five_starts}
 use Rattle.frame.specs.Content.{five_ones}
 
 -- a number has n ones at its low end

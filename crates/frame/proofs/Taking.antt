@@ -10,13 +10,13 @@ use borrow.Author.Tests.{eqb-true, eq-eqb, ne_eqb}
 use lib.Count.{count_trailing_zeros, under}
 use lib.Dec.{eqb}
 use lib.ListN.{length, length-append, take-append-drop}
-use lib.Pow.{field, mod-mod-pow, shr_le, shr_lt, shr-shr}
+use lib.Pow.{field, mod-mod-pow, shr_lt, shr-shr}
 use Rattle.octets.specs.Bits.{odd}
 use Rattle.frame.specs.Pen.{low_bits}
 use Rattle.frame.specs.Inner.{taken, left_behind, takens, lefts_behind, NoSix}
 use Rattle.frame.specs.Content.{Able, Gains, left_told, kept_told, five_ones, MarksFives, Passes, TakenAs}
 use Rattle.frame.specs.declared.Kept.{Kept}
-use Rattle.frame.specs.declared.Taken.TheVariants.{All, Six}
+use Rattle.std.specs.declared.ops.ControlFlow.TheVariants.{Continue, Break}
 use Rattle.frame.proofs.Pens.{length_low_bits, low_bits_rest, low_bits_take, low_bits_drop}
 use Rattle.frame.proofs.Starts.{shifts}
 use Rattle.frame.proofs.Keeping.{gains_none, gains_then}
@@ -161,11 +161,8 @@ module _ {w : ℕ} {plain₀ : List ℕ} {kept₀ : Kept} {plain : List ℕ} {ke
       let d : word / 2048 ≡ w / 2 ^ (11 + place) = ap (λ (v : ℕ). v / 2048) x.here ∙ sym (shifts w 11 place) ∙ shr-shr w 11 place in
       rw d (shr_lt (8 - place) (11 + place) (rw e h))
 
-  pub passed_octet : w < 524288 → word / 2048 < 256
-  passed_octet h = omega (arith, x.here, shr_le w place)
-
   -- the bits behind the last mark
-  pub passed_all : {plain₁ : List ℕ} {kept₁ : Kept} → runs ≡ 0 → Gains (low_bits (8 - place) (word / 2048)) plain kept plain₁ kept₁ → TakenAs w plain₀ kept₀ plain₁ (All kept₁)
+  pub passed_all : {plain₁ : List ℕ} {kept₁ : Kept} → runs ≡ 0 → Gains (low_bits (8 - place) (word / 2048)) plain kept plain₁ kept₁ → TakenAs w plain₀ kept₀ plain₁ (Continue kept₁)
   passed_all z g =
       let e : place + (8 - place) ≡ 8 = omega (arith, x.few) in
       rw e at (passes_then w place (8 - place) x.passes
@@ -193,7 +190,7 @@ module _ {w : ℕ} {plain₀ : List ℕ} {kept₀ : Kept} {plain : List ℕ} {ke
           (rw x.here at (passes_whole word z (λ i l. sym (x.marks i (omega (arith, first.few))) ∙ first.none i l) (rw (low_bits_rest z (word / 2048)) at g)))
 
       -- a sixth one
-      pub passed_six : word / 2 ^ z / 2048 % 2 ≡ 1 → TakenAs w plain₀ kept₀ plain₁ (Six kept₁ (place + z) (not (eqb (word / 2 ^ z % 32) 31)))
+      pub passed_six : word / 2 ^ z / 2048 % 2 ≡ 1 → TakenAs w plain₀ kept₀ plain₁ (Break (record { kept = kept₁; place = place + z; real = not (eqb (word / 2 ^ z % 32) 31) }))
       passed_six o =
           let t = word / 2 ^ z % 2048 in
           let e : t / 2 ^ left_told t % 32 ≡ word / 2 ^ z % 32 = ap (λ (k : ℕ). t / 2 ^ k % 32) spent ∙ omega arith in (

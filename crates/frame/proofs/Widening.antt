@@ -15,7 +15,7 @@ use Rattle.octets.specs.Places.{both}
 use Rattle.octets.proofs.Laws.{both_true}
 use Rattle.frame.specs.Stuffing.{stuffed}
 use Rattle.frame.specs.Pen.{low_bits}
-use Rattle.frame.specs.Quill.{five_starts, Widens}
+use Rattle.frame.specs.Zeros.{five_starts, Widens}
 use Rattle.frame.proofs.Pens.{length_low_bits, low_bits_rest, low_bits_take, low_bits_drop}
 use Rattle.frame.proofs.Zeros.{stuffed-length}
 use Rattle.frame.proofs.Starts.{ones_first, starts_odd, starts_none, starts_shift}

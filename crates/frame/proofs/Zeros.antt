@@ -1,13 +1,15 @@
 -- Bits sent with the zeros that they need: two lists one after the other, and the length. A frame: its length, and what puts it part by part.
 -- Assumes nothing.
 use Prim.Native.Nat.{ℕ, zero, suc, ◌+◌, ◌*◌, ◌/◌, ◌%◌, ◌<◌, ◌≤◌}
-use mathlib.Core.Path.{◌≡◌, refl, sym, ap}
+use mathlib.Core.Path.{◌≡◌, refl, sym, ap, ◌∙◌}
 use mathlib.Core.Bool.{Bool, true, false}
-use mathlib.Core.List.{List, [], ◌∷◌, ◌++◌}
+use mathlib.Core.List.{List, [], ◌∷◌, ◌++◌, append-nil}
 use native.Mathlib.Omega.{arith}
-use lib.ListN.{length, get_or, drop, length-append}
+use lib.ListN.{length, get_or, drop, replicate, length-append, length-drop, drop_of_length-le}
 use lib.Seq.{drop-cons}
-use Rattle.octets.specs.Bits.{oct_before, bits, number}
+use Rattle.std.proofs.lemmas.List.{length-replicate}
+use Rattle.octets.specs.Lay.{put}
+use Rattle.octets.specs.Bits.{oct_before, bits, number, pack}
 use Rattle.octets.proofs.Laws.{length_bits}
 use Rattle.fcs.specs.Division.{fcs}
 use Rattle.fcs.proofs.Polynomials.{length_fcs}
@@ -15,10 +17,9 @@ use Rattle.fcs.proofs.Registers.{fcs_octets}
 use Rattle.frame.specs.Limits.{most_information, most_opening, most_closing}
 use Rattle.frame.specs.Stuffing.{flag, stuffed}
 use Rattle.frame.specs.Frame.{flags, content, frame}
-use Rattle.frame.specs.Pen.{low_bits, Adds, left_after}
-use Rattle.frame.specs.declared.Pen.{Pen}
+use Rattle.frame.specs.Pen.{Pen, low_bits, Holds, Adds, left_after}
 use Rattle.frame.proofs.Flags.{length_flags}
-use Rattle.frame.proofs.Pens.{adds_then}
+use Rattle.frame.proofs.Pens.{start, adds_then}
 
 -- zeros are put into two lists, one after the other, piece by piece
 pub stuffed-append : (k : ℕ) (xs ys : List Bool) → stuffed k (xs ++ ys) ≡ stuffed k xs ++ stuffed (left_after k xs) ys
@@ -71,6 +72,35 @@ pub flags_turn : {out₀ out₁ out₂ : List ℕ} {pen₀ pen₁ pen₂ : Pen} 
 unfolding low_bits
 flags_turn k x y = rw (flags_next k) at (adds_then x y)
 
+-- flags fill octets
+pack_flags : (k : ℕ) → pack k (flags k) ≡ replicate k 126
+unfolding pack flags number
+pack_flags zero = refl
+pack_flags (suc k) = ap (λ (t : List ℕ). 126 ∷ t) (pack_flags k)
+
+-- so they are put at the start by octets of 126
+pub flags_filled : (k : ℕ) (out xs : List ℕ) → k ≤ length out → xs ≡ replicate k 126 → Adds (flags k) out start (xs ++ drop k out) (record { at = k * 8 + 0; octet = 0 })
+unfolding put pack number
+flags_filled k out xs room e = record {
+  at = omega (arith, length_flags k);
+  size = omega (arith, length-append xs (drop k out), length-drop k out, many);
+  adds = λ o done l h. go o done h;
+}
+  where
+    many : length xs ≡ k
+    many = ap length e ∙ length-replicate {A = ℕ} k 126
+
+    go : (o : List ℕ) (done : List Bool) → Holds o done out start → Holds o (done ++ flags k) (xs ++ drop k out) (record { at = k * 8 + 0; octet = 0 })
+    go o (b ∷ done) h = absurd (omega (arith, h.at))
+    go o [] h =
+        let n : length (flags k) / 8 ≡ k = omega (arith, length_flags k) in
+        let none : drop (k * 8) (flags k) ≡ [] = drop_of_length-le (flags k) {i = k * 8} (omega (arith, length_flags k)) in
+        record {
+          at = omega (arith, length_flags k);
+          octets = rw (n, pack_flags k, length-replicate {A = ℕ} k 126, e, h.octets);
+          octet = rw (n, none);
+        }
+
 -- the eight lowest bits of a number are those of an octet
 pub low_bits_octet : (v : ℕ) → low_bits 8 v ≡ oct_before v []
 unfolding low_bits
@@ -86,6 +116,10 @@ low_bits_octet v =
 -- bits are the bits a and then the bits b
 pub record Splits (bs a b : List Bool) : Type 0 where
   pub parts : bs ≡ a ++ b
+
+-- nothing stands behind all of them
+pub splits_end : (bs : List Bool) → Splits bs bs []
+splits_end bs = record { parts = sym (append-nil bs) }
 
 -- the next octet of a run
 pub bits_next : (s : List ℕ) (i : ℕ) → i < length s → Splits (bits (drop i s)) (oct_before (get_or s i 0) []) (bits (drop (i + 1) s))

@@ -1,6 +1,6 @@
 -- Inner: a content as the reader takes it, eight bits of a run at a time: what is kept of it, what the last bits tell of the next, and what is found.
 -- Assumes nothing.
-use Rattle.std.specs.Prelude.{ℕ, ◌+◌, ◌-◌, ◌*◌, ◌/◌, ◌%◌, ◌^◌, ◌<◌, ◌≤◌, Bool, true, not, List, ◌++◌, ◌≡◌, eqb, length, take, drop}
+use Rattle.std.specs.Prelude.{ℕ, ◌+◌, ◌-◌, ◌*◌, ◌/◌, ◌%◌, ◌^◌, ◌<◌, ◌≤◌, Bool, true, not, Option, Some, None, List, ◌++◌, ◌≡◌, eqb, length, take, drop}
 use Rattle.std.specs.Int.Count.{count_leading_zeros}
 use Rattle.octets.specs.Bits.{bits, number, odd}
 use Rattle.octets.specs.Places.{pick, last_place}
@@ -8,10 +8,10 @@ use Rattle.frame.specs.Stuffing.{Cutting, uncut, cut_into}
 use Rattle.frame.specs.Pen.{low_bits}
 use Rattle.frame.specs.Inner.{takens, NoSix, closes}
 use Rattle.frame.specs.declared.Kept.{Kept}
-use Rattle.frame.specs.declared.Taken.{Taken}
-use Rattle.frame.specs.declared.Taken.TheVariants.{All, Six}
+use Rattle.std.specs.declared.ops.ControlFlow.{ControlFlow}
+use Rattle.std.specs.declared.ops.ControlFlow.TheVariants.{Continue, Break}
+use Rattle.frame.specs.declared.Sixth.{Sixth}
 use Rattle.frame.specs.declared.Found.{Found}
-use Rattle.frame.specs.declared.Found.TheVariants.{Nothing, Upto}
 
 -- the first n of the bits bs stand in plain, as many as it has room for
 abbrev pub Stands : ℕ → List Bool → List ℕ → Type 0
@@ -67,15 +67,15 @@ pub record SixAt (w n : ℕ) (real : Bool) : Type 0 where
   pub kept : real ≡ kept_told (w / 2 ^ n % 2048)
 
 -- eight bits were taken, or those up to a sixth one
-abbrev pub TakenAs : ℕ → List ℕ → Kept → List ℕ → Taken → Type 0
-TakenAs w plain₀ kept₀ plain₁ (All kept) = Passes w 8 plain₀ kept₀ plain₁ kept
-TakenAs w plain₀ kept₀ plain₁ (Six kept place real) = SixAt w place real × Passes w place plain₀ kept₀ plain₁ kept
+abbrev pub TakenAs : ℕ → List ℕ → Kept → List ℕ → ControlFlow Sixth Kept → Type 0
+TakenAs w plain₀ kept₀ plain₁ (Continue kept) = Passes w 8 plain₀ kept₀ plain₁ kept
+TakenAs w plain₀ kept₀ plain₁ (Break six) = SixAt w six.place six.real × Passes w six.place plain₀ kept₀ plain₁ six.kept
 
 -- ---- the end
 
 -- the sixth one in a row, at a place with the bits r behind it: the content's end is looked for
-pub record Ends (r : List Bool) (at : ℕ) (plain₀ : List ℕ) (kept : Kept) (real : Bool) (plain₁ : List ℕ) (found : Found) : Type 0 where
-  pub answer : found ≡ pick (closes real r) (Upto (kept.size - 6) (at - 6)) Nothing
+pub record Ends (r : List Bool) (at : ℕ) (plain₀ : List ℕ) (kept : Kept) (real : Bool) (plain₁ : List ℕ) (found : Option Found) : Type 0 where
+  pub answer : found ≡ pick (closes real r) (Some (record { bits = kept.size - 6; next = at - 6 })) None
   pub plain : closes real r ≡ true → (bs : List Bool) → Keeps bs plain₀ kept → Stands (length bs) bs plain₁
 
 -- the cutting x of the bits bs is a content of so many bits, which stand in plain, and what follows from a place on
@@ -87,6 +87,6 @@ pub record FindsUpto (x : Cutting) (bs : List Bool) (count : ℕ) (plain : List 
   pub within : next ≤ count
 
 -- the answer r, with what plain has, is the cutting x of the bits bs
-abbrev pub Finds : Cutting → List Bool → ℕ → List ℕ → Found → Type 0
-Finds x bs count plain Nothing = x ≡ uncut
-Finds x bs count plain (Upto size next) = FindsUpto x bs count plain size next
+abbrev pub Finds : Cutting → List Bool → ℕ → List ℕ → Option Found → Type 0
+Finds x bs count plain None = x ≡ uncut
+Finds x bs count plain (Some found) = FindsUpto x bs count plain found.bits found.next

@@ -4,8 +4,10 @@ pub mod Frame
 pub mod Reader
 pub mod Writer
 pub mod Pen
+pub mod Zeros
 pub mod Quill
 pub mod Inner
+pub mod Run
 pub mod Content
 pub mod Exact
 pub mod Promises

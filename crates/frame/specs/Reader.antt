@@ -1,6 +1,6 @@
 -- To be believed: what the frame reader answers, by the rules' numbers, and what it leaves in the output.
 -- Assumes nothing.
-use Rattle.std.specs.Prelude.{ℕ, ◌-◌, ◌*◌, ◌/◌, ◌%◌, Bool, true, false, not, List, [], ◌∷◌, ◌≡◌, ltb, length, take, drop}
+use Rattle.std.specs.Prelude.{ℕ, ◌-◌, ◌*◌, ◌/◌, ◌%◌, Bool, true, false, not, Result, Ok, Err, List, [], ◌∷◌, ◌≡◌, ltb, length, take, drop}
 use Rattle.std.specs.Bool.{beq}
 use Rattle.octets.specs.Bits.{bits, packed}
 use Rattle.octets.specs.Lay.{put}
@@ -9,8 +9,8 @@ use Rattle.frame.specs.Limits.{most_bits, information_room, fewest_content, most
 use Rattle.octets.specs.Places.{both}
 use Rattle.frame.specs.Stuffing.{Cutting, uncut, cut_into}
 use Rattle.frame.specs.Frame.{framed}
-use Rattle.frame.specs.declared.FrameRead.{FrameRead}
-use Rattle.frame.specs.declared.FrameRead.TheVariants.{Octets, BadLent, BadFlags, SplitOctet, TooShort, TooLong, WrongCheck}
+use Rattle.frame.specs.declared.FrameReadRefusal.{FrameReadRefusal}
+use Rattle.frame.specs.declared.FrameReadRefusal.TheVariants.{BadLent, BadFlags, SplitOctet, TooShort, TooLong, WrongCheck}
 
 -- a refusal's number, or the information
 pub data Reading : Type 0 where
@@ -64,14 +64,14 @@ pub record Reply : Type 0 where
   pub count : ℕ
 
 -- each answer's number and value
-abbrev pub read_told : FrameRead → Reply
-read_told (Octets n) = record { no = 0; count = n }
-read_told BadLent = record { no = 1; count = 0 }
-read_told BadFlags = record { no = 2; count = 0 }
-read_told SplitOctet = record { no = 3; count = 0 }
-read_told TooShort = record { no = 4; count = 0 }
-read_told TooLong = record { no = 5; count = 0 }
-read_told WrongCheck = record { no = 6; count = 0 }
+abbrev pub read_told : Result ℕ FrameReadRefusal → Reply
+read_told (Ok n) = record { no = 0; count = n }
+read_told (Err BadLent) = record { no = 1; count = 0 }
+read_told (Err BadFlags) = record { no = 2; count = 0 }
+read_told (Err SplitOctet) = record { no = 3; count = 0 }
+read_told (Err TooShort) = record { no = 4; count = 0 }
+read_told (Err TooLong) = record { no = 5; count = 0 }
+read_told (Err WrongCheck) = record { no = 6; count = 0 }
 
 abbrev pub read_reply : Reading → Reply
 read_reply (refused k) = record { no = k; count = 0 }
@@ -83,6 +83,6 @@ read_leaves (refused k) out = out
 read_leaves (information os) out = put os out
 
 -- the reply r and the output out₁ are those of the reading x into the output out₀
-pub record Reads (x : Reading) (out₀ : List ℕ) (r : FrameRead) (out₁ : List ℕ) : Type 0 where
+pub record Reads (x : Reading) (out₀ : List ℕ) (r : Result ℕ FrameReadRefusal) (out₁ : List ℕ) : Type 0 where
   pub reply : read_told r ≡ read_reply x
   pub output : out₁ ≡ read_leaves x out₀

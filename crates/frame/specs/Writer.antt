@@ -1,13 +1,13 @@
 -- To be believed: what the frame writer answers, by the rules' numbers, and what it leaves in the output.
 -- Assumes nothing.
-use Rattle.std.specs.Prelude.{ℕ, Bool, true, false, List, ◌≡◌, ltb, length}
+use Rattle.std.specs.Prelude.{ℕ, Bool, true, false, Result, Ok, Err, List, ◌≡◌, ltb, length}
 use Rattle.octets.specs.Bits.{packed}
 use Rattle.octets.specs.Lay.{put}
 use Rattle.frame.specs.Limits.{most_information, frame_room, fewest_opening, most_opening, fewest_closing, most_closing}
 use Rattle.frame.specs.Frame.{frame}
 use Rattle.frame.specs.Reader.{Reply}
-use Rattle.frame.specs.declared.FrameWritten.{FrameWritten}
-use Rattle.frame.specs.declared.FrameWritten.TheVariants.{Bits, BadLent, BadLength, BadFlagCount}
+use Rattle.frame.specs.declared.FrameWriteRefusal.{FrameWriteRefusal}
+use Rattle.frame.specs.declared.FrameWriteRefusal.TheVariants.{BadLent, BadLength, BadFlagCount}
 
 -- a refusal's number, or the bits of the frame
 pub data Writing : Type 0 where
@@ -31,11 +31,11 @@ write_frame info opening closing room =
     (sent (frame info opening closing))))))))
 
 -- each answer's number and value, the bit count
-abbrev pub write_told : FrameWritten → Reply
-write_told (Bits n) = record { no = 0; count = n }
-write_told BadLent = record { no = 1; count = 0 }
-write_told BadLength = record { no = 7; count = 0 }
-write_told BadFlagCount = record { no = 8; count = 0 }
+abbrev pub write_told : Result ℕ FrameWriteRefusal → Reply
+write_told (Ok n) = record { no = 0; count = n }
+write_told (Err BadLent) = record { no = 1; count = 0 }
+write_told (Err BadLength) = record { no = 7; count = 0 }
+write_told (Err BadFlagCount) = record { no = 8; count = 0 }
 
 abbrev pub write_reply : Writing → Reply
 write_reply (refused k) = record { no = k; count = 0 }
@@ -47,6 +47,6 @@ write_leaves (refused k) out = out
 write_leaves (sent bs) out = put (packed bs) out
 
 -- the reply r and the output out₁ are those of the writing x into the output out₀
-pub record Writes (x : Writing) (out₀ : List ℕ) (r : FrameWritten) (out₁ : List ℕ) : Type 0 where
+pub record Writes (x : Writing) (out₀ : List ℕ) (r : Result ℕ FrameWriteRefusal) (out₁ : List ℕ) : Type 0 where
   pub reply : write_told r ≡ write_reply x
   pub output : out₁ ≡ write_leaves x out₀

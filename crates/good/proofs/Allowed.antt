@@ -11,14 +11,14 @@ use lib.Bits.{bit_and}
 use lib.Dec.{ltb, eqb}
 use lib.ListN.{length, get_or, drop}
 use lib.Pow.{shr-shr}
+use Rattle.std.specs.Prelude.{Option, Some, None}
+use Rattle.std.specs.Bool.{then_some}
 use Rattle.octets.specs.Bits.{odd}
 use Rattle.octets.specs.Places.{pick, both}
 use Rattle.tree.specs.Block.{set_bits, block_numbers, block_end, numbers, behind}
 use Rattle.tree.specs.Fields.{is_in, all_in}
 use Rattle.tree.specs.Order.{Ascending, AllBelow}
-use Rattle.tree.specs.Form.{is_fine, block_form, form_at}
-use Rattle.tree.specs.declared.Form.{Form}
-use Rattle.tree.specs.declared.Form.TheVariants.{Fine, Wrong}
+use Rattle.tree.specs.Form.{Form, Fine, Wrong, is_fine, block_form, form_at}
 use Rattle.tree.proofs.Ascending.{bits_between}
 use Rattle.tree.proofs.Forms.{form_out}
 use Rattle.tree.proofs.Lowest.{in_bits}
@@ -70,15 +70,15 @@ abbrev tight_from : Bool → ℕ → List ℕ → Bool
 tight_from others m l = pick others (full_at_end m l) (tight m l)
 
 module _ (w m n : ℕ) (l : List ℕ) where
-  -- the place behind the block that goes on at place i, its positions numbered from p + 1; 0 where it is not good
-  abbrev from : Bool → ℕ → ℕ → ℕ
-  from others p i = pick (both (is_fine (form_at m l i)) (both (tight_from others m (drop i l)) (all_named n (numbers w m p l i)))) (behind m l i) 0
+  -- the place behind the block that goes on at place i, its positions numbered from p + 1; none where it is not good
+  abbrev from : Bool → ℕ → ℕ → Option ℕ
+  from others p i = then_some (both (is_fine (form_at m l i)) (both (tight_from others m (drop i l)) (all_named n (numbers w m p l i)))) (behind m l i)
 
   -- by its octet there
   from_octet : (others : Bool) (p i : ℕ) → i < length l →
       let o = get_or l i 0 in
       from others p i
-      ≡ pick (all_named n (set_bits w p o)) (pick (ltb o m) (from true (p + w) (i + 1)) (pick (odd (o / m)) (pick (pick others (not (eqb (o % m) 0)) true) (i + 1) 0) 0)) 0
+      ≡ pick (all_named n (set_bits w p o)) (pick (ltb o m) (from true (p + w) (i + 1)) (pick (odd (o / m)) (then_some (pick others (not (eqb (o % m) 0)) true) (i + 1)) None)) None
   unfolding block_form full_at_end tight block_numbers block_end all_named
   from_octet others p i h =
       let o = get_or l i 0 in
@@ -94,8 +94,8 @@ module _ (w m n : ℕ) (l : List ℕ) where
       B = form_at m l (i + 1)
 
       go : (t u v b z : Bool)
-          → pick (both (is_fine (pick u B (pick b Fine (Wrong i)))) (both (pick t (pick u F (not z)) (pick u F true)) (both v (all_named n (pick u R []))))) (pick u (behind m l (i + 1)) (i + 1)) 0
-          ≡ pick v (pick u (pick (both (is_fine B) (both F (all_named n R))) (behind m l (i + 1)) 0) (pick b (pick (pick t (not z) true) (i + 1) 0) 0)) 0
+          → then_some (both (is_fine (pick u B (pick b Fine (Wrong i)))) (both (pick t (pick u F (not z)) (pick u F true)) (both v (all_named n (pick u R []))))) (pick u (behind m l (i + 1)) (i + 1))
+          ≡ pick v (pick u (then_some (both (is_fine B) (both F (all_named n R))) (behind m l (i + 1))) (pick b (then_some (pick t (not z) true) (i + 1)) None)) None
       go t u false b z = rw (both_none (pick t (pick u F (not z)) (pick u F true)), both_none (is_fine (pick u B (pick b Fine (Wrong i)))))
       go true true true b z = refl
       go false true true b z = refl
@@ -109,7 +109,7 @@ pub record Looked (w m n : ℕ) (l : List ℕ) (e a i : ℕ) : Type 0 where
   pub p : ℕ
   pub left : a ≡ n / 2 ^ p
   pub reach : e ≤ i
-  pub same : from w m n l (ltb e i) p i ≡ pick (good_block w m n l e) (behind m l e) 0
+  pub same : from w m n l (ltb e i) p i ≡ then_some (good_block w m n l e) (behind m l e)
 
 module _ {w m n : ℕ} {l : List ℕ} {e : ℕ} where
   -- none was yet
@@ -118,7 +118,7 @@ module _ {w m n : ℕ} {l : List ℕ} {e : ℕ} where
 
   module _ {a i : ℕ} (y : Looked w m n l e a i) where
     -- the octets are at their end
-    pub looked_end : length l ≤ i → 0 ≡ pick (good_block w m n l e) (behind m l e) 0
+    pub looked_end : length l ≤ i → None ≡ then_some (good_block w m n l e) (behind m l e)
     looked_end h = sym (rw (form_out m i l h)) ∙ y.same
 
     module _ (mark : m ≡ 2 ^ w) (h : i < length l) where
@@ -129,26 +129,26 @@ module _ {w m n : ℕ} {l : List ℕ} {e : ℕ} where
       octet = named_octet w m n y.p (get_or l i 0) a mark y.left
 
       -- something of the octet at i is lost
-      pub looked_lost : (bit_and d a ≡ d → ⊥) → 0 ≡ pick (good_block w m n l e) (behind m l e) 0
+      pub looked_lost : (bit_and d a ≡ d → ⊥) → None ≡ then_some (good_block w m n l e) (behind m l e)
       looked_lost k = sym (from_octet w m n l (ltb e i) y.p i h ∙ rw (octet, ne_eqb _ _ k)) ∙ y.same
 
       module _ (k : bit_and d a ≡ d) where
         -- it is the last of the block: with bit 8 alone, with nothing set behind others, or neither
         module _ (u : m ≤ get_or l i 0) where
-          pub looked_wrong : get_or l i 0 / m % 2 ≡ 0 → 0 ≡ pick (good_block w m n l e) (behind m l e) 0
+          pub looked_wrong : get_or l i 0 / m % 2 ≡ 0 → None ≡ then_some (good_block w m n l e) (behind m l e)
           looked_wrong b = sym (from_octet w m n l (ltb e i) y.p i h ∙ rw (octet, eq-eqb _ _ k, le-ltb _ _ u, b)) ∙ y.same
 
           module _ (b : get_or l i 0 / m % 2 ≡ 0 → ⊥) where
             right : get_or l i 0 / m % 2 ≡ 1
             right = omega arith
 
-            pub looked_empty : d ≡ 0 → e < i → 0 ≡ pick (good_block w m n l e) (behind m l e) 0
+            pub looked_empty : d ≡ 0 → e < i → None ≡ then_some (good_block w m n l e) (behind m l e)
             looked_empty z f = sym (from_octet w m n l (ltb e i) y.p i h ∙ rw (octet, eq-eqb _ _ k, le-ltb _ _ u, right, lt-ltb _ _ f, eq-eqb _ _ z)) ∙ y.same
 
-            pub looked_last : (d ≡ 0 → i ≤ e) → i + 1 ≡ pick (good_block w m n l e) (behind m l e) 0
+            pub looked_last : (d ≡ 0 → i ≤ e) → Some (i + 1) ≡ then_some (good_block w m n l e) (behind m l e)
             looked_last z = sym (from_octet w m n l (ltb e i) y.p i h ∙ rw (octet, eq-eqb _ _ k, le-ltb _ _ u, right) (go (ltb e i) refl (eqb d 0) refl)) ∙ y.same
               where
-                go : (t : Bool) → ltb e i ≡ t → (v : Bool) → eqb d 0 ≡ v → pick (pick t (not v) true) (i + 1) 0 ≡ i + 1
+                go : (t : Bool) → ltb e i ≡ t → (v : Bool) → eqb d 0 ≡ v → then_some (pick t (not v) true) (i + 1) ≡ Some (i + 1)
                 go true f true g = absurd (omega (arith, ltb-true e i f, z (eqb-true d 0 g)))
                 go true f false g = refl
                 go false f v g = refl

@@ -15,9 +15,7 @@ use Rattle.octets.specs.Bits.{num, odd}
 use Rattle.octets.specs.Places.{pick, both}
 use Rattle.tree.specs.Block.{numbers, behind, announced, ended}
 use Rattle.tree.specs.Codes.{field_base, sub_codes, group_codes, group_behind, par_codes, rest_codes, field_codes, of_t, of_s}
-use Rattle.tree.specs.Form.{is_fine, and_then, last_form, form_at, subs_form, group_form, pars_form, rest_form, field_form}
-use Rattle.tree.specs.declared.Form.{Form}
-use Rattle.tree.specs.declared.Form.TheVariants.{Fine, Early, Wrong, Left, BadLength}
+use Rattle.tree.specs.Form.{Form, Fine, Early, Wrong, Left, BadLength, is_fine, and_then, last_form, form_at, subs_form, group_form, pars_form, rest_form, field_form}
 use Rattle.meaning.specs.Minimal.{tight_at, subs_minimal, group_minimal, pars_minimal, field_minimal}
 use Rattle.tree.proofs.Numbering.{numbers_shift, shift}
 use Rattle.octets.proofs.Laws.{both_true}

@@ -13,7 +13,7 @@ use lib.Seq.{get_or-set_same, get_or-set_other}
 use Rattle.octets.specs.Bits.{odd}
 use Rattle.octets.specs.Places.{pick}
 use Rattle.octets.proofs.Laws.{both_true}
-use Rattle.tree.specs.Block.{set_bits, numbers, behind, announced}
+use Rattle.tree.specs.Block.{numbers, behind, announced}
 use Rattle.tree.specs.Codes.{field_base, of_s, group_codes, group_behind, par_codes, rest_codes, field_codes, field_behind}
 use Rattle.tree.specs.Fields.{is_in}
 use Rattle.tree.specs.Form.{is_fine, field_form}
@@ -28,7 +28,7 @@ use Rattle.good.specs.Good.{most_standard}
 use Rattle.good.specs.Goodness.{below_at, Names, all_pass, good_by}
 use Rattle.good.specs.Learned.{block_value, block_bits, par_put, pars_put}
 use Rattle.good.proofs.Standards.{clash, spars_over, standard_names_lem}
-use Rattle.good.proofs.Values.{block_bit, block_small, block_list}
+use Rattle.good.proofs.Values.{block_bit, block_small}
 use Rattle.good.proofs.Judgement.{pass_split}
 use Rattle.good.proofs.Learning.{in_over, below_higher, below_append, pass_none, below_between, Learnt, fits, end_is, par_learnt}
 
@@ -106,6 +106,23 @@ top_none (c ∷ cs) a b h =
     let at : field_base 2 + k ≡ c = omega (arith, a.0) in
     absurd (clash (both_true (standard_code c) _ h).0 (rw at at (standard_names_lem.top k (omega (arith, a.0)) (omega (arith, b.0)))))
 
+-- positions of which none is above
+all_below : (n : ℕ) (qs : List ℕ) → ((k : ℕ) → n ≤ k → is_in k qs ≡ false) → AllBelow n qs
+unfolding AllBelow is_in
+all_below n [] h = tt
+all_below n (q ∷ qs) h = (low (ltb q n) refl, all_below n qs (λ k g. rest k (h k g) (eqb q k)))
+  where
+    low : (t : Bool) → ltb q n ≡ t → q < n
+    low true e = ltb-true q n e
+    low false e = absurd (clash (rw (eq-eqb q q refl)) (h q (ltb-false q n e)))
+
+    rest : (k : ℕ) → pick (eqb q k) true (is_in k qs) ≡ false → (t : Bool) → is_in k qs ≡ false
+    rest k e t = go (eqb q k) e
+      where
+        go : (t : Bool) → pick t true (is_in k qs) ≡ false → is_in k qs ≡ false
+        go true f = cc
+        go false f = f
+
 -- sixteen that are 0
 zeros : (n i : ℕ) → ◌≡◌ {A = ℕ} (get_or (replicate n 0) i 0) 0
 zeros zero i = refl
@@ -175,25 +192,25 @@ module _ (t : List ℕ) (good : good_by standard_code t ≡ true) where
   codes_are = let b = numbers_between 7 128 (field_base 2) t 0 (omega arith) short in rw (top_none (numbers 7 128 (field_base 2) t 0) b.0 b.1 split.0)
 
   -- the positions of SPar(1)
-  small : block_value 7 128 t e < 2 ^ 9
-  small = block_small 7 128 t e 9 (λ k h. go k h (ltb k 512) refl)
+  none_above : (k : ℕ) → 9 < k → is_in k ss ≡ false
+  none_above k h = go k h (ltb k 512) refl
     where
       go : (k : ℕ) → 9 < k → (b : Bool) → ltb k 512 ≡ b → is_in k ss ≡ false
       go k h true f = sym (spar_in t short k ss 0 start rising) ∙ pass_none standard_code (field_base 2 + k * of_s) codes split.1 (spars_over k h (ltb-true k 512 f))
       go k h false f = in_over k 512 ss (ltb-false k 512 f) (numbers_between 7 128 0 t e (omega arith) short).1
 
+  small : block_value 7 128 t e < 2 ^ 9
+  small = block_small 7 128 t e 9 none_above
+
   value_is : block_bits 7 128 t e ≡ block_value 7 128 t e
   value_is = mod-eq_of_lt (omega (arith, small))
 
-  positions : set_bits 9 0 (block_bits 7 128 t e) ≡ ss
-  positions = ap (set_bits 9 0) value_is ∙ block_list 7 128 t e 9 small
-
-  own_names : let v = block_bits 7 128 t e in Names (λ c. is_in c (field_codes (field_base 2) t 0)) (pars_put (set_bits 9 0 v) t start (none v))
+  own_names : let v = block_bits 7 128 t e in Names (λ c. is_in c (field_codes (field_base 2) t 0)) (pars_put ss t start (none v))
   unfolding AllBelow
   own_names =
       let v = block_bits 7 128 t e in
       let all : Learnt v codes (pars_put ss t start (none v)) = pars_learnt t short v ss 0 start [] (none v) rising asked.1 split.1 tt (none_learnt v) in
-      rw (positions, codes_are)
+      rw codes_are
       (record {
         fit = (all.size, all.few);
         top = λ k h s. pass_none standard_code (field_base 2 + k) codes split.1 (standard_names_lem.top k h s);
@@ -207,8 +224,9 @@ module _ (t : List ℕ) (good : good_by standard_code t ≡ true) where
 
   -- as the code finds the places
   module _ {p q v : ℕ} (a : p ≡ behind 128 t 0) (b : q ≡ behind 128 t p) (h : v ≡ block_bits 7 128 t p) where
-    pub spars_few : v < 512
-    spars_few = omega (arith, rw a at h, value_is, small)
+    pub names_are : {n m : List ℕ} → n ≡ replicate 16 0 → m ≡ pars_put (numbers 7 128 0 t p) t q (set n 0 v) → Names (λ c. is_in c (field_codes (field_base 2) t 0)) m
+    names_are f g = rw (g, f, h, b, a) own_names
 
-    pub names_are : {k : ℕ} {n m : List ℕ} → k ≡ 16 → n ≡ replicate k 0 → m ≡ pars_put (set_bits 9 0 v) t q (set n 0 v) → Names (λ c. is_in c (field_codes (field_base 2) t 0)) m
-    names_are i f g = rw (g, f, i, h, b, a) own_names
+  -- they are few and low
+  pub spars_low : {p : ℕ} → p ≡ behind 128 t 0 → (length t ≤ 64) × AllBelow 10 (numbers 7 128 0 t p)
+  spars_low a = (short, rw a (all_below 10 ss (λ k h. none_above k h)))

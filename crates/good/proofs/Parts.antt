@@ -8,8 +8,7 @@ use borrow.Author.Tests.{leb-true, eqb-true}
 use lib.Dec.{leb, eqb}
 use lib.ListN.{length}
 use Rattle.tree.specs.Codes.{field_base, field_codes, field_behind}
-use Rattle.tree.specs.Form.{is_fine, field_form}
-use Rattle.tree.specs.declared.Form.TheVariants.{Fine}
+use Rattle.tree.specs.Form.{Fine, is_fine, field_form}
 use Rattle.tree.proofs.Forms.{is_fine_lem}
 use Rattle.meaning.specs.Minimal.{field_minimal}
 use Rattle.names.specs.Named.{standard_code}

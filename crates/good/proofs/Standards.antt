@@ -9,9 +9,8 @@ use native.Mathlib.Nat.{zero-div, div-eq_of_lt}
 use native.Mathlib.Omega.{arith}
 use borrow.Author.Tests.{lt-leb, eq-eqb, ne_eqb, eqb-true, eqb-false, ltb-true, ltb-false}
 use lib.Dec.{eqb, ltb}
-use lib.ListN.{length, get_or, drop, drop_of_length-le}
+use lib.ListN.{get_or}
 use lib.Pow.{pow_mono}
-use lib.Seq.{sets, sets-eq}
 use Rattle.octets.specs.Bits.{num, odd}
 use Rattle.octets.specs.Places.{pick}
 use Rattle.tree.specs.Codes.{code_of, field_base, of_t, of_s}
@@ -34,7 +33,14 @@ standard_names =
 
 -- ---- each is that of the tables
 
-npars_are : (q : ℕ) → 0 < q → npars_in standard_names q ≡ (npar_places Standard (field_base 2 + q * of_s)).bits
+-- the standard places of the NPar block, and of the SPar block, that stand under a code
+abbrev npar_bits : ℕ → ℕ
+npar_bits c = mask_of is_standard (printed_under c npar_blocks)
+
+abbrev spar_bits : ℕ → ℕ
+spar_bits c = mask_of is_standard (printed_under c spar_blocks)
+
+npars_are : (q : ℕ) → 0 < q → npars_in standard_names q ≡ npar_bits (field_base 2 + q * of_s)
 unfolding npar_places mask_of printed_under every
 npars_are zero h = absurd (omega arith)
 npars_are (suc zero) h = refl
@@ -52,14 +58,14 @@ npars_are (suc (suc (suc (suc (suc (suc (suc (suc (suc (suc i)))))))))) h =
 
 -- under an SPar(1) two codes alone have SPar(2), and NPar(3) under the first of it
 module _ (q : ℕ) (h : 0 < q) (s : q < 512) where
-  subs_are : subs_in standard_names q ≡ (spar_places Standard (field_base 2 + q * of_s)).bits
+  subs_are : subs_in standard_names q ≡ spar_bits (field_base 2 + q * of_s)
   unfolding spar_places mask_of printed_under every
   subs_are = go (eqb q 3) refl (eqb q 8) refl
     where
       c : ℕ
       c = field_base 2 + q * of_s
 
-      go : (t : Bool) → eqb q 3 ≡ t → (u : Bool) → eqb q 8 ≡ u → get_or standard_names (pick t 10 (pick u 11 12) + 3) 0 ≡ (spar_places Standard c).bits
+      go : (t : Bool) → eqb q 3 ≡ t → (u : Bool) → eqb q 8 ≡ u → get_or standard_names (pick t 10 (pick u 11 12) + 3) 0 ≡ spar_bits c
       go true e u f = let z : q ≡ 3 = eqb-true q 3 e in rw z
       go false e true f = let z : q ≡ 8 = eqb-true q 8 f in rw z
       go false e false f =
@@ -71,14 +77,14 @@ module _ (q : ℕ) (h : 0 < q) (s : q < 512) where
             ne_eqb c (code_of 2 8 0 0) (λ z. eqb-false q 8 f (omega arith)),
           ))
 
-  lows_are : lows_in standard_names q ≡ (npar_places Standard (field_base 2 + q * of_s + of_t)).bits
+  lows_are : lows_in standard_names q ≡ npar_bits (field_base 2 + q * of_s + of_t)
   unfolding npar_places mask_of printed_under every
   lows_are = go (eqb q 3) refl (eqb q 8) refl
     where
       c : ℕ
       c = field_base 2 + q * of_s + of_t
 
-      go : (t : Bool) → eqb q 3 ≡ t → (u : Bool) → eqb q 8 ≡ u → get_or standard_names (pick t 10 (pick u 11 12)) 0 ≡ (npar_places Standard c).bits
+      go : (t : Bool) → eqb q 3 ≡ t → (u : Bool) → eqb q 8 ≡ u → get_or standard_names (pick t 10 (pick u 11 12)) 0 ≡ npar_bits c
       go true e u f = let z : q ≡ 3 = eqb-true q 3 e in rw z
       go false e true f = let z : q ≡ 8 = eqb-true q 8 f in rw z
       go false e false f =
@@ -111,13 +117,6 @@ standard_names_lem =
       low = λ q k h s i t. rw (lows_are q h s) (keeps_npar Standard (field_base 2 + q * of_s + of_t) k (omega arith) i t);
     }
 
--- the sixteen put one after the other
-pub standard_put : (n : List ℕ) → length n ≡ 16 → Names standard_code (sets n 0 standard_names)
-standard_put n h =
-    let none : drop 16 n ≡ [] = drop_of_length-le n {i = 16} (omega arith) in
-    let all : sets n 0 standard_names ≡ standard_names = sets-eq standard_names n 0 (omega arith) ∙ rw none in
-    rw all standard_names_lem
-
 -- ---- which codes are not standard
 
 -- a number has no bit above those that hold it
@@ -133,7 +132,7 @@ pub spars_over : (q : ℕ) → 9 < q → q < 512 → standard_code (field_base 2
 spars_over q h s = sym (standard_names_lem.spar q (omega arith) s) ∙ bit_none 0x1FF 9 (q - 1) (omega arith) (omega arith)
 
 -- NPar behind the 32nd
-npars_small : (c : ℕ) → (npar_places Standard c).bits < 2 ^ 32
+npars_small : (c : ℕ) → npar_bits c < 2 ^ 32
 unfolding npar_places mask_of every
 npars_small c =
     ⊎_elim
@@ -143,7 +142,7 @@ npars_small c =
 
 pub npars_over : (c k : ℕ) → c % 512 ≡ 0 → 32 < k → k < 512 → standard_code (c + k) ≡ false
 unfolding npar_places
-npars_over c k a h s = sym (keeps_npar Standard c k a (omega arith) s) ∙ bit_none (npar_places Standard c).bits 32 (k - 1) (npars_small c) (omega arith)
+npars_over c k a h s = sym (keeps_npar Standard c k a (omega arith) s) ∙ bit_none (npar_bits c) 32 (k - 1) (npars_small c) (omega arith)
 
 -- SPar(2) but the first, of two SPar(1)
 pub sub_only : (q t : ℕ) → 0 < q → q < 512 → 0 < t → t < 512 → standard_code (field_base 2 + q * of_s + t * of_t) ≡ true → (t ≡ 1) × ((q ≡ 3) ⊎ (q ≡ 8))

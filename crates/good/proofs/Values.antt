@@ -2,7 +2,7 @@
 -- Assumes nothing.
 use Prim.Native.Nat.{ℕ, zero, suc, ◌+◌, ◌-◌, ◌*◌, ◌/◌, ◌%◌, ◌^◌, ◌≤◌, ◌<◌}
 use mathlib.Core.Bool.{Bool, true, false}
-use mathlib.Core.List.{List, [], ◌∷◌, ◌++◌, append-nil}
+use mathlib.Core.List.{List, [], ◌++◌, append-nil}
 use mathlib.Core.Path.{◌≡◌, refl, sym, ap, ◌∙◌}
 use native.Mathlib.Nat.{mod-lt, mod-eq_of_lt, pow-suc, le-div_iff_mul-le}
 use native.Mathlib.Numerals.{add-one}
@@ -11,9 +11,8 @@ use borrow.Author.Tests.{ltb-true, ltb-false, eq-eqb}
 use lib.Arith.{digits_lt}
 use lib.Count.{count_trailing_zeros}
 use lib.Dec.{ltb}
-use lib.ListN.{length, take, drop, get_or, set, replicate, replicate-append-replicate, length-drop, drop_of_length-le}
+use lib.ListN.{length, drop, get_or, length-drop, drop_of_length-le}
 use lib.Pow.{pow_pos, pow-add, field, shl-shr, shr-shr, shr_le, high, low, mod-pow-add, mod-mod-pow}
-use lib.Seq.{take-suc-set}
 use Rattle.octets.specs.Bits.{num, odd}
 use Rattle.octets.specs.Places.{pick}
 use Rattle.octets.proofs.Laws.{drop_next}
@@ -24,12 +23,6 @@ use Rattle.tree.proofs.Few.{block_few}
 use Rattle.tree.proofs.Lowest.{lowest, bits_none, in_bits}
 use Rattle.tree.proofs.Numbering.{keep_append}
 use Rattle.good.specs.Learned.{value_from, block_value, block_bits}
-
--- ---- numbers that are 0
-
--- one more
-pub zero_more : (l : List ℕ) (i : ℕ) → i < length l → take i l ≡ replicate i 0 → take (i + 1) (set l i 0) ≡ replicate (i + 1) 0
-zero_more l i h e = rw (add-one i) (take-suc-set l i 0 h ∙ ap (λ (a : List ℕ). a ++ 0 ∷ []) e ∙ replicate-append-replicate i 1 0 ∙ ap (λ (n : ℕ). replicate n 0) (add-one i))
 
 -- ---- an octet more, from the last to the first
 

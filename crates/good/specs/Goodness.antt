@@ -2,7 +2,8 @@
 -- numbers, the names, with a bit for each position, position 1 the lowest: SPar(1) first, then NPar(2) of each of the nine SPar(1), and
 -- NPar(3) and SPar(2) of the two that may have them. One law says that it is what is asked of a good field.
 -- Assumes nothing.
-use Rattle.std.specs.Prelude.{ℕ, ◌+◌, ◌-◌, ◌*◌, ◌/◌, ◌%◌, ◌^◌, ◌<◌, Bool, true, false, not, List, [], ◌∷◌, ◌≡◌, leb, eqb, length, get_or}
+use Rattle.std.specs.Prelude.{ℕ, ◌+◌, ◌-◌, ◌*◌, ◌/◌, ◌%◌, ◌^◌, ◌<◌, Bool, true, false, not, List, [], ◌∷◌, ◌≡◌, leb, eqb, length, get_or, Option}
+use Rattle.std.specs.Bool.{then_some}
 use Rattle.octets.specs.Bits.{odd}
 use Rattle.octets.specs.Places.{pick, both}
 use Rattle.tree.specs.Block.{numbers, behind, ended}
@@ -83,9 +84,9 @@ good_rest n l e = both (good_block 7 128 (spars_in n) l e) (good_pars n (numbers
 unfoldable pub good_blocks : List ℕ → List ℕ → Bool
 good_blocks n l = both (good_block 7 128 0 l 0) (good_rest n l (behind 128 l 0))
 
--- the place behind some Par(2) blocks, or 0 where they are not good
-abbrev pub pars_judged : List ℕ → List ℕ → List ℕ → ℕ → ℕ
-pars_judged n qs l e = pick (good_pars n qs l e) (pars_behind (length qs) l e) 0
+-- the place behind some Par(2) blocks, or none where they are not good
+abbrev pub pars_judged : List ℕ → List ℕ → List ℕ → ℕ → Option ℕ
+pars_judged n qs l e = then_some (good_pars n qs l e) (pars_behind (length qs) l e)
 
 -- a field of at most so many octets, and no octet behind it
 unfoldable pub good_in : List ℕ → List ℕ → Bool

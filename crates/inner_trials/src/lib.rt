@@ -4,17 +4,17 @@
 mod choices;
 mod parts;
 
-use wire::Reply;
+use wire::{Reply, Request};
 
-// Has the request's operation carried out; no reply where it is none of these.
-pub fn carry_out(request: &[u8]) -> Reply {
-    match wire::octet(request, 0) {
+// Has a request's operation carried out; no reply where it is none of these, or where the request is none.
+pub fn carry_out(operation: u8, request: Request<'_>) -> Option<Reply> {
+    match operation {
         32 => choices::check_tables(request),
         33 => choices::first_ready(request),
         34 => choices::first_common(request),
         35 => choices::judge_mode(request),
         36 => parts::ns_read(request),
         37 => parts::ns_made_up(request),
-        _ => wire::no_reply(),
+        _ => None,
     }
 }

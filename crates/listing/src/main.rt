@@ -4,9 +4,9 @@
 
 ghost use Rattle.std.specs.Prelude.{◌≤◌, length, IfOk};
 
-use message::{Message, MessageRead};
-use std::io;
-use std::io::{ErrorKind, Read, Write};
+use message::{Message, MessageType};
+use std::io::{ErrorKind, Read};
+use std::{fmt, io};
 
 // The octets that are read: one more than a message may have, so that a longer input is refused for its length.
 const FIELD_LIMIT: usize = 65;
@@ -21,132 +21,105 @@ const OF_S: u32 = POSITIONS * POSITIONS;
 
 const OF_F: u32 = OF_S * POSITIONS;
 
-// The f of a code.
+// The f of a code, with which it is compared.
 const IDENTIFICATION: u32 = 1;
 
 const STANDARD: u32 = 2;
 
-fn print(rt: &impl Print, octets: &[u8]) -> io::Result<()> {
-    io::writer(rt).write_all(octets)
+// A code, printed as s.t.n.
+#[derive(Clone, Copy)]
+struct Code(u32);
+
+impl Code {
+    fn field(self) -> u32 {
+        self.0 / OF_F
+    }
 }
 
-fn print_number(rt: &impl Print, number: u64) -> io::Result<()> {
-    print!(rt; "{number}")
+impl fmt::Display for Code {
+    fn fmt<W: fmt::Write>(&self, f: &mut fmt::Formatter<W>) -> fmt::Result {
+        let s = self.0 / OF_S % POSITIONS;
+        let t = self.0 / POSITIONS % POSITIONS;
+        let n = self.0 % POSITIONS;
+        write!(f, "{s}.{t}.{n}")
+    }
 }
 
-// A line whose value is a number.
-fn print_line(rt: &impl Print, key: &[u8], number: u64) -> io::Result<()> {
-    print(rt, key)?;
-    print_number(rt, number)?;
-    print(rt, b"\n")
-}
-
-// The line of a type that the message reader knows.
-fn print_type(rt: &impl Print, kind: u8) -> io::Result<()> {
+// The listing's own words for a type.
+fn name_of(kind: MessageType) -> &'static str {
     match kind {
-        1 => print(rt, b"type=MS\n"),
-        2 => print(rt, b"type=CL\n"),
-        3 => print(rt, b"type=CLR\n"),
-        4 => print(rt, b"type=ACK(1)\n"),
-        5 => print(rt, b"type=ACK(2)\n"),
-        8 => print(rt, b"type=NAK(1)\n"),
-        9 => print(rt, b"type=NAK(2)\n"),
-        10 => print(rt, b"type=NAK(3)\n"),
-        _ => print(rt, b"type=NAK(4)\n"),
+        MessageType::Ms => "MS",
+        MessageType::Cl => "CL",
+        MessageType::Clr => "CLR",
+        MessageType::Ack1 => "ACK(1)",
+        MessageType::Ack2 => "ACK(2)",
+        MessageType::Nak1 => "NAK(1)",
+        MessageType::Nak2 => "NAK(2)",
+        MessageType::Nak3 => "NAK(3)",
+        MessageType::Nak4 => "NAK(4)",
     }
 }
 
-// A code, as s.t.n.
-fn print_code(rt: &impl Print, code: u32) -> io::Result<()> {
-    print_number(rt, (code / OF_S % POSITIONS) as u64)?;
-    print(rt, b".")?;
-    print_number(rt, (code / POSITIONS % POSITIONS) as u64)?;
-    print(rt, b".")?;
-    print_number(rt, (code % POSITIONS) as u64)
+// The line of a type: the message reader tells of known ones alone.
+fn print_type(rt: &impl Print, kind: u8) -> io::Result<()> {
+    match MessageType::try_from(kind) {
+        Ok(known) => println!(rt; "type={}", name_of(known)),
+        Err(_) => Ok(()),
+    }
 }
 
-// A code, if it is one of the field, behind a comma unless it is the first there. Tells whether the first is still to come.
-fn print_next(rt: &impl Print, code: u32, field: u32, first: bool) -> io::Result<bool> {
-    if code / OF_F != field {
-        return Ok(first);
+// The line of a field: its codes in the list.
+fn print_field(rt: &impl Print, key: &str, list: &[u32], field: u32) -> io::Result<()> {
+    print!(rt; "{key}=")?;
+    let mut comma = "";
+    for number in list {
+        let code = Code(*number);
+        if code.field() == field {
+            print!(rt; "{comma}{code}")?;
+            comma = ",";
+        }
     }
-    if !first {
-        print(rt, b",")?;
-    }
-    print_code(rt, code)?;
-    Ok(false)
-}
-
-// The codes of a field among the first of the list.
-fn print_codes(rt: &impl Print, list: &[u32], count: usize, field: u32) -> io::Result<()> {
-    let mut first = true;
-    let mut i = 0;
-    while i < count && i < list.len() {
-        first = print_next(rt, list[i], field, first)?;
-        i += 1;
-    }
-    Ok(())
-}
-
-// The line of a field.
-fn print_field(
-    rt: &impl Print,
-    key: &[u8],
-    list: &[u32],
-    count: usize,
-    field: u32,
-) -> io::Result<()> {
-    print(rt, key)?;
-    print_codes(rt, list, count, field)?;
-    print(rt, b"\n")
+    println!(rt; "")
 }
 
 // The lines of a message, whose codes are the first of the list.
 fn print_message(rt: &impl Print, m: Message, list: &[u32]) -> io::Result<()> {
+    let codes = list.get(..m.count).unwrap_or(list);
+    let revision = m.revision;
     let ns = m.ns;
+    let length = ns.length;
     print_type(rt, m.kind)?;
-    print_line(rt, b"rev=", m.revision as u64)?;
-    print_field(rt, b"i=", list, m.count, IDENTIFICATION)?;
-    print_field(rt, b"s=", list, m.count, STANDARD)?;
-    print_line(rt, b"ns=", ns.length as u64)
-}
-
-fn print_refusal(rt: &impl Print, number: u64) -> io::Result<()> {
-    print_line(rt, b"refusal=", number)
+    println!(rt; "rev={revision}")?;
+    print_field(rt, "i", codes, IDENTIFICATION)?;
+    print_field(rt, "s", codes, STANDARD)?;
+    println!(rt; "ns={length}")
 }
 
 // What is printed for an information field.
 fn print_listing(rt: &impl Print, field: &[u8]) -> io::Result<()> {
-    let mut list = [0u32; LIST_ROOM];
+    let mut list = [0; LIST_ROOM];
     match message::read_message(field, &mut list) {
-        MessageRead::Read(m) => print_message(rt, m, &list),
-        MessageRead::BadLent => print_refusal(rt, 1),
-        MessageRead::BadSize => print_refusal(rt, 2),
-        MessageRead::UnknownType => print_refusal(rt, 3),
-        MessageRead::Malformed => print_refusal(rt, 4),
+        Ok(m) => print_message(rt, m, &list),
+        Err(refusal) => println!(rt; "refusal={}", refusal as u8),
     }
 }
 
-// Reads octets up to the end of the input, as many as there is room for, and says how many there were.
+// Reads octets up to the end of the input, as many as there is room for, and says how many there were: the place where it ended.
 fn read_full(input: &mut impl Read, octets: &mut [u8]) -> io::Result<usize>
     ensures { IfOk result (λ n. n ≤ length octets.new) }
 {
     for i in 0..octets.len() {
         match input.read_exact(&mut octets[i..i + 1]) {
             Ok(()) => {}
-            Err(error) => {
-                return match error.kind() {
-                    ErrorKind::UnexpectedEof => Ok(i),
-                    _ => Err(error),
-                };
-            }
+            Err(error) if error.kind() == ErrorKind::UnexpectedEof => return Ok(i),
+            Err(error) => return Err(error),
         }
     }
     Ok(octets.len())
 }
 
 fn main(rt: HostRuntime) -> io::Result<()> {
-    let mut field = [0u8; FIELD_LIMIT];
+    let mut field = [0; FIELD_LIMIT];
     let size = read_full(&mut rt.stdin(), &mut field)?;
     print_listing(&rt, &field[..size])
 }

@@ -14,10 +14,8 @@ use Rattle.octets.specs.Bits.{odd}
 use Rattle.octets.specs.Places.{pick}
 use Rattle.tree.specs.Block.{keep, set_bits, block_numbers, numbers, behind, ended}
 use Rattle.tree.specs.Codes.{code_of, field_base, sub_codes, group_codes, group_behind, par_codes, rest_codes, field_codes, of_s}
-use Rattle.tree.specs.Form.{is_fine}
+use Rattle.tree.specs.Form.{Form, Fine, Left, is_fine}
 use Rattle.tree.specs.Fields.{is_in}
-use Rattle.tree.specs.declared.Form.{Form}
-use Rattle.tree.specs.declared.Form.TheVariants.{Fine, Left}
 use Rattle.tree.proofs.Forms.{is_fine_lem}
 use Rattle.tree.proofs.Lowest.{in_bits}
 use Rattle.message.specs.Kinds.{has_fields, type_of}

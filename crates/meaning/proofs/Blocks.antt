@@ -16,9 +16,8 @@ use lib.Seq.{sets, drop-drop, drop-append_seam, get_or-append_seam, get_or-drop,
 use lib.Pow.{pow_pos, pow_mono}
 use Rattle.octets.specs.Places.{pick}
 use Rattle.tree.specs.Block.{keep, set_bits, block_numbers, block_end, numbers, behind, ended}
-use Rattle.tree.specs.Form.{block_form, form_at}
+use Rattle.tree.specs.Form.{Fine, block_form, form_at}
 use Rattle.tree.specs.Order.{Ascending}
-use Rattle.tree.specs.declared.Form.TheVariants.{Fine}
 use Rattle.meaning.specs.Written.{passed, skipped, carried, block_from, block_octets, marked}
 use Rattle.meaning.specs.Minimal.{full_at_end, tight, tight_at}
 use Rattle.tree.proofs.Ascending.{numbers-ascending}

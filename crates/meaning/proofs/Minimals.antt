@@ -19,8 +19,7 @@ use Rattle.tree.specs.Block.{numbers, behind, announced, ended}
 use Rattle.tree.specs.Codes.{subs_behind, group_behind, pars_behind, rest_behind, field_behind}
 use Rattle.tree.proofs.Ascending.{numbers-ascending}
 use Rattle.tree.proofs.Forms.{and_parts}
-use Rattle.tree.specs.Form.{and_then, last_form, block_form, form_at, subs_form, group_form, pars_form, rest_form, field_form}
-use Rattle.tree.specs.declared.Form.TheVariants.{Fine, Wrong}
+use Rattle.tree.specs.Form.{Fine, Wrong, and_then, last_form, block_form, form_at, subs_form, group_form, pars_form, rest_form, field_form}
 use Rattle.tree.specs.Wide.{field_fits}
 use Rattle.meaning.specs.Coded.{field_coded}
 use Rattle.meaning.specs.Written.{block_octets, marked}

@@ -14,11 +14,9 @@ use Rattle.octets.specs.Places.{pick, both}
 use Rattle.octets.proofs.Laws.{both_true}
 use Rattle.tree.specs.Block.{numbers, behind, announced, ended}
 use Rattle.tree.specs.Codes.{sub_codes, subs_behind, group_codes, group_behind, par_codes, pars_behind, rest_codes, rest_behind, field_codes, field_behind, of_s}
-use Rattle.tree.specs.Form.{subs_form, group_form, pars_form, rest_form, field_form}
+use Rattle.tree.specs.Form.{Form, Fine, subs_form, group_form, pars_form, rest_form, field_form}
 use Rattle.tree.specs.Order.{Ascending}
 use Rattle.tree.specs.Wide.{low_fits, field_fits}
-use Rattle.tree.specs.declared.Form.{Form}
-use Rattle.tree.specs.declared.Form.TheVariants.{Fine}
 use Rattle.meaning.specs.Coded.{none_above, coded_at, subs_coded, group_coded, pars_coded, field_coded}
 use Rattle.meaning.specs.Written.{block_octets, marked}
 use Rattle.meaning.specs.Minimal.{subs_minimal, group_minimal, pars_minimal, field_minimal}

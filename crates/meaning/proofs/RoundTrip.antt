@@ -14,9 +14,8 @@ use lib.Seq.{drop-cons, drop-drop, drop-append_seam, get_or-take, get_or-drop, t
 use Rattle.octets.specs.Bits.{AreOctets}
 use Rattle.octets.specs.Places.{pick}
 use Rattle.tree.specs.Codes.{code_of, field_base, field_codes, field_behind}
-use Rattle.tree.specs.Form.{is_fine, field_form}
+use Rattle.tree.specs.Form.{Fine, Left, is_fine, field_form}
 use Rattle.tree.specs.Fields.{is_in, most_octets}
-use Rattle.tree.specs.declared.Form.TheVariants.{Fine, Left}
 use Rattle.tree.proofs.Forms.{is_fine_lem, and_parts, field_fits}
 use Rattle.message.specs.Kinds.{known, has_fields, type_of, revision_of, first_octet}
 use Rattle.message.specs.Nonstandard.{ns_announced, ns_form, tail_form}

@@ -3,8 +3,7 @@
 use Rattle.std.specs.Prelude.{ℕ, true, List, ◌≡◌, length}
 use Rattle.octets.specs.Bits.{AreOctets}
 use Rattle.tree.specs.Codes.{field_base, field_codes, field_behind}
-use Rattle.tree.specs.Form.{field_form}
-use Rattle.tree.specs.declared.Form.TheVariants.{Fine}
+use Rattle.tree.specs.Form.{Fine, field_form}
 use Rattle.message.specs.Kinds.{type_of, revision_of}
 use Rattle.message.specs.Reader.{message_codes, ns_of}
 use Rattle.meaning.specs.Coded.{field_coded}

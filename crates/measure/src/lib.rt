@@ -2,13 +2,10 @@
 // part of the public side.
 #![tactic(auto)]
 
-use message::MessageRead;
-use station::{Event, Stepped};
-use strike::Struck;
+use station::Event;
 use table::{OnCrD, OnCrE, OnMrD, OnMrE, Phase, Settings, State};
-use writer::MessageWritten;
 
-// What is told of a refusal stands above this.
+// What is told of a refusal stands above this: C gets one number.
 const REFUSED: u64 = 1000;
 
 // All that can be offered is offered.
@@ -24,15 +21,27 @@ fn settings() -> Settings {
     }
 }
 
-// The octets that a step sends and stores.
-fn octets_of(stepped: Stepped) -> u64 {
+// The octets that a step sends and stores: a field is heard 1 ms after a phase was entered. Both exports take it in, so that the step
+// keeps an entry of its own, from which bench/ measures its stack.
+#[inline(always)]
+fn octets_of_step(
+    phase: Phase,
+    own: &[u8],
+    wishes: &[u8],
+    field: &[u8],
+    out: &mut [u8],
+    store: &mut [u8],
+) -> u64 {
+    let state = State { phase };
+    let event = Event::Field;
+    let stepped = station::step(state, settings(), own, wishes, event, field, 1, out, store);
     let first = stepped.first % 65536;
     let second = stepped.second % 65536;
     let stored = stepped.stored % 65536;
     (first + second + stored) as u64
 }
 
-// A list is heard where it is due: Lists-d, 1 ms after its entry.
+// A list is heard where it is due: in Lists-d.
 #[unsafe(no_mangle)]
 pub extern "C" fn kamvezhor_measure_list(
     own: &[u8],
@@ -41,23 +50,10 @@ pub extern "C" fn kamvezhor_measure_list(
     out: &mut [u8],
     store: &mut [u8],
 ) -> u64 {
-    let state = State {
-        phase: Phase::ListsD(0),
-    };
-    octets_of(station::step(
-        state,
-        settings(),
-        own,
-        wishes,
-        Event::Field,
-        field,
-        1,
-        out,
-        store,
-    ))
+    octets_of_step(Phase::ListsD(0), own, wishes, field, out, store)
 }
 
-// An MS is heard where it is due: Asked-d, 1 ms after its entry.
+// An MS is heard where it is due: in Asked-d.
 #[unsafe(no_mangle)]
 pub extern "C" fn kamvezhor_measure_mode(
     own: &[u8],
@@ -66,31 +62,15 @@ pub extern "C" fn kamvezhor_measure_mode(
     out: &mut [u8],
     store: &mut [u8],
 ) -> u64 {
-    let state = State {
-        phase: Phase::AskedD(0),
-    };
-    octets_of(station::step(
-        state,
-        settings(),
-        own,
-        wishes,
-        Event::Field,
-        field,
-        1,
-        out,
-        store,
-    ))
+    octets_of_step(Phase::AskedD(0), own, wishes, field, out, store)
 }
 
 // The message reader: how many codes there are, or the refusal.
 #[unsafe(no_mangle)]
 pub extern "C" fn kamvezhor_measure_read(message: &[u8], list: &mut [u32]) -> u64 {
     match message::read_message(message, list) {
-        MessageRead::Read(m) => m.count as u64,
-        MessageRead::BadLent => REFUSED + 1,
-        MessageRead::BadSize => REFUSED + 2,
-        MessageRead::UnknownType => REFUSED + 3,
-        MessageRead::Malformed => REFUSED + 4,
+        Ok(m) => m.count as u64,
+        Err(refusal) => REFUSED + refusal as u64,
     }
 }
 
@@ -104,15 +84,8 @@ pub extern "C" fn kamvezhor_measure_write(
     out: &mut [u8],
 ) -> u64 {
     match writer::write_message(kind, revision, list, ns, out) {
-        MessageWritten::Octets(n) => n as u64,
-        MessageWritten::BadLent => REFUSED + 1,
-        MessageWritten::BadType => REFUSED + 3,
-        MessageWritten::BadCode => REFUSED + 5,
-        MessageWritten::NotAscending => REFUSED + 6,
-        MessageWritten::NoParent => REFUSED + 7,
-        MessageWritten::NotEmpty => REFUSED + 8,
-        MessageWritten::BadNs => REFUSED + 9,
-        MessageWritten::TooLong => REFUSED + 10,
+        Ok(n) => n as u64,
+        Err(refusal) => REFUSED + refusal as u64,
     }
 }
 
@@ -120,10 +93,7 @@ pub extern "C" fn kamvezhor_measure_write(
 #[unsafe(no_mangle)]
 pub extern "C" fn kamvezhor_measure_strike(message: &[u8], out: &mut [u8]) -> u64 {
     match strike::strike_message(message, out) {
-        Struck::Octets(n) => n as u64,
-        Struck::BadLent => REFUSED + 1,
-        Struck::BadSize => REFUSED + 2,
-        Struck::UnknownType => REFUSED + 3,
-        Struck::Malformed => REFUSED + 4,
+        Ok(n) => n as u64,
+        Err(refusal) => REFUSED + refusal as u64,
     }
 }

@@ -9,17 +9,18 @@ use borrow.Author.Tests.{le-ltb, ltb-false, eqb-false, not-false}
 use lib.Dec.{ltb, eqb}
 use lib.ListN.{length, drop, length-append, length-drop}
 use lib.Seq.{take_all}
+use Rattle.tree.specs.Form.{Form, Fine, Early, Wrong, Left, BadLength}
 use Rattle.octets.specs.Lay.{put}
 use Rattle.octets.specs.Places.{pick}
 use Rattle.tree.specs.Codes.{field_base, field_codes}
-use Rattle.tree.specs.declared.Form.{Form}
-use Rattle.tree.specs.declared.Form.TheVariants.{Fine, Early, Wrong, Left, BadLength}
 use Rattle.message.specs.Kinds.{known, has_fields, type_of}
 use Rattle.message.specs.Nonstandard.{ns_announced}
 use Rattle.tree.specs.Fields.{most_octets}
 use Rattle.message.specs.Reader.{list_room, standard_at, tail_at, message_form, message_codes, has_ns, Reading, refused, accepted, refused_if, judged, read_message, Reply, read_told, read_reply, codes_read, Reads, span_told, ns_told}
-use Rattle.message.specs.declared.MessageRead.{MessageRead}
-use Rattle.message.specs.declared.MessageRead.TheVariants.{Read, BadLent, BadSize, UnknownType, Malformed}
+use Rattle.std.specs.Prelude.{Result, Ok, Err}
+use Rattle.message.specs.declared.Message.{Message}
+use Rattle.message.specs.declared.MessageReadRefusal.{MessageReadRefusal}
+use Rattle.message.specs.declared.MessageReadRefusal.TheVariants.{BadLent, BadSize, UnknownType, Malformed}
 use Rattle.message.proofs.Fields.{parts_fit}
 use Rattle.message.proofs.Reading.{form_fields}
 use Rattle.message.proofs.Room.{codes_fit}
@@ -100,7 +101,7 @@ unfolding Passes
 never_zero l room = (passes l room).1
 
 -- an answer that is success is that of an accepted message
-pub success_accepted : (l list₀ : List ℕ) (r : MessageRead) (list₁ : List ℕ) → Reads l list₀ r list₁ → (read_told r).no ≡ 0 → read_message l (length list₀) ≡ accepted
+pub success_accepted : (l list₀ : List ℕ) (r : Result Message MessageReadRefusal) (list₁ : List ℕ) → Reads l list₀ r list₁ → (read_told r).no ≡ 0 → read_message l (length list₀) ≡ accepted
 success_accepted l list₀ r list₁ a h = go (read_message l (length list₀)) (never_zero l (length list₀)) a.reply
   where
     go : (x : Reading) → (x ≡ refused 0 → ⊥) → read_told r ≡ read_reply x l → x ≡ accepted
@@ -108,16 +109,16 @@ success_accepted l list₀ r list₁ a h = go (read_message l (length list₀)) 
     go accepted n p = refl
 
 -- it leaves the codes at the front of the list and the rest as it was
-pub success_writes : (l list₀ : List ℕ) (r : MessageRead) (list₁ : List ℕ) → Reads l list₀ r list₁ → (read_told r).no ≡ 0 → list₁ ≡ put (message_codes l) list₀
+pub success_writes : (l list₀ : List ℕ) (r : Result Message MessageReadRefusal) (list₁ : List ℕ) → Reads l list₀ r list₁ → (read_told r).no ≡ 0 → list₁ ≡ put (message_codes l) list₀
 success_writes l list₀ r list₁ a h = rw (success_accepted l list₀ r list₁ a h) at a.list
 
 -- an answer tells in its reply where its NS lies
-told_span : (r : MessageRead) → ((span_told r).at ≡ (read_told r).ns_at) × ((span_told r).length ≡ (read_told r).ns_length)
-told_span (Read m) = (refl, refl)
-told_span BadLent = (refl, refl)
-told_span BadSize = (refl, refl)
-told_span UnknownType = (refl, refl)
-told_span Malformed = (refl, refl)
+told_span : (r : Result Message MessageReadRefusal) → ((span_told r).at ≡ (read_told r).ns_at) × ((span_told r).length ≡ (read_told r).ns_length)
+told_span (Ok m) = (refl, refl)
+told_span (Err BadLent) = (refl, refl)
+told_span (Err BadSize) = (refl, refl)
+told_span (Err UnknownType) = (refl, refl)
+told_span (Err Malformed) = (refl, refl)
 
 -- a well-formed message has its NS within the octets
 ns_fits : (l : List ℕ) → message_form l ≡ Fine → has_ns l ≡ true → tail_at l ≤ length l
@@ -143,7 +144,7 @@ told_small l room = go (read_message l room) refl
         (at_most_448 l room e, q.0, q.1)
 
 -- the NS that it tells of is all that stands behind S
-pub success_ns : (l list₀ : List ℕ) (r : MessageRead) (list₁ : List ℕ) → Reads l list₀ r list₁ → (read_told r).no ≡ 0 → ns_told r l ≡ pick (has_ns l) (drop (tail_at l) l) []
+pub success_ns : (l list₀ : List ℕ) (r : Result Message MessageReadRefusal) (list₁ : List ℕ) → Reads l list₀ r list₁ → (read_told r).no ≡ 0 → ns_told r l ≡ pick (has_ns l) (drop (tail_at l) l) []
 unfolding ns_told
 success_ns l list₀ r list₁ a h =
     let e = success_accepted l list₀ r list₁ a h in

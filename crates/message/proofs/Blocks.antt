@@ -7,8 +7,8 @@ use native.Mathlib.Omega.{arith}
 use borrow.Author.Tests.{le-leb, lt-leb, lt-ltb, le-ltb, eq-eqb, ne_eqb}
 use lib.Dec.{ltb, eqb}
 use lib.ListN.{length, get_or}
+use Rattle.tree.specs.Form.{Fine, Early, BadLength}
 use Rattle.octets.specs.Places.{pick}
-use Rattle.tree.specs.declared.Form.TheVariants.{Fine, Early, BadLength}
 use Rattle.message.specs.Nonstandard.{ns_form}
 
 -- the blocks from place e on decide the form of those from place start on, and blocks enough may follow

@@ -7,15 +7,16 @@ use mathlib.Core.List.{List}
 use native.Mathlib.Omega.{arith}
 use lib.ListN.{length, take, drop, length-drop, drop_of_length-le}
 use lib.Seq.{take_all}
+use Rattle.tree.specs.Form.{Fine}
 use Rattle.octets.specs.Places.{pick}
-use Rattle.tree.specs.declared.Form.TheVariants.{Fine}
 use Rattle.message.specs.Check.{Finding, check_told, check_reply, check_message}
-use Rattle.message.specs.Kinds.{has_fields, type_of}
+use Rattle.message.specs.Kinds.{has_fields, type_of, type_number}
 use Rattle.message.specs.Nonstandard.{ns_announced}
 use Rattle.tree.specs.Fields.{most_octets}
-use Rattle.message.specs.Reader.{list_room, standard_at, tail_at, ns_place, ns_size, Reading, refused, accepted, read_message}
-use Rattle.message.specs.declared.MessageCheck.{MessageCheck}
-use Rattle.message.specs.declared.MessageCheck.TheVariants.{Parted, BadSize, UnknownType, Malformed}
+use Rattle.message.specs.Reader.{list_room, standard_at, tail_at, message_form, ns_place, ns_size, Reading, refused, accepted, read_message}
+use Rattle.std.specs.Prelude.{Result, Ok, Err}
+use Rattle.message.specs.declared.MessageFault.{MessageFault}
+use Rattle.message.specs.declared.MessageFault.TheVariants.{BadSize, UnknownType, Malformed}
 use Rattle.message.specs.declared.Parts.{Parts}
 use Rattle.message.proofs.Accepted.{Passed, accepted_passed, never_zero}
 use Rattle.message.proofs.Fields.{whole, parts_fine, parts_fit, nothing_behind}
@@ -27,7 +28,7 @@ reading_of zero = accepted
 reading_of (suc k) = refused (suc k)
 
 -- an answer's number tells how the message is judged
-reading_told : (l : List ℕ) (r : MessageCheck) → check_told r ≡ check_message l → read_message l list_room ≡ reading_of (check_told r).no
+reading_told : (l : List ℕ) (r : Result Parts MessageFault) → check_told r ≡ check_message l → read_message l list_room ≡ reading_of (check_told r).no
 unfolding check_message
 reading_told l r t = go (read_message l list_room) (never_zero l list_room) ∙ ap (λ (f : Finding). reading_of f.no) (sym t)
   where
@@ -36,16 +37,11 @@ reading_told l r t = go (read_message l list_room) (never_zero l list_room) ∙ 
     go (refused (suc k)) n = refl
     go accepted n = refl
 
--- ---- the refusals
-
-pub size_refused : (l : List ℕ) → check_told BadSize ≡ check_message l → read_message l list_room ≡ refused 2
-size_refused l = reading_told l BadSize
-
-pub type_refused : (l : List ℕ) → check_told UnknownType ≡ check_message l → read_message l list_room ≡ refused 3
-type_refused l = reading_told l UnknownType
-
-pub form_refused : (l : List ℕ) → check_told Malformed ≡ check_message l → read_message l list_room ≡ refused 4
-form_refused l = reading_told l Malformed
+-- a refusal's is the reader's
+pub fault_refused : (l : List ℕ) (f : MessageFault) → check_told (Err f) ≡ check_message l → read_message l list_room ≡ refused (check_told (Err f)).no
+fault_refused l BadSize = reading_told l (Err BadSize)
+fault_refused l UnknownType = reading_told l (Err UnknownType)
+fault_refused l Malformed = reading_told l (Err Malformed)
 
 -- ---- a well-formed message with fields
 
@@ -63,15 +59,15 @@ module _ (l : List ℕ) (room : ℕ) (e : read_message l room ≡ accepted) (h :
 
 -- ---- a message that is found well-formed
 
-module _ (l : List ℕ) (p : Parts) (t : check_told (Parted p) ≡ check_message l) where
+module _ (l : List ℕ) (p : Parts) (t : check_told (Ok p) ≡ check_message l) where
   pub parted_accepted : read_message l list_room ≡ accepted
-  parted_accepted = reading_told l (Parted p) t
+  parted_accepted = reading_told l (Ok p) t
 
-  found : check_told (Parted p) ≡ check_reply accepted l
+  found : check_told (Ok p) ≡ check_reply accepted l
   unfolding check_message
   found = rw parted_accepted at t
 
-  pub kind_told : p.kind ≡ type_of l
+  pub kind_told : type_number p.kind ≡ type_of l
   kind_told = ap (λ (f : Finding). f.kind) found
 
   pub standard_told : p.standard ≡ standard_at l
@@ -83,19 +79,19 @@ module _ (l : List ℕ) (p : Parts) (t : check_told (Parted p) ≡ check_message
   passed : Passed l
   passed = accepted_passed l list_room parted_accepted
 
+  pub form_fine : message_form l ≡ Fine
+  form_fine = passed.form
+
   pub some_octet : 0 < length l
   some_octet = passed.some
 
   pub few_octets : length l ≤ most_octets
   few_octets = passed.few
 
-  -- with fields: there is an octet of I, and what is behind S begins within the octets
+  -- with fields: what is behind S begins within the octets
   module _ (h : has_fields (type_of l) ≡ true) where
     parts : whole l ≡ Fine
     parts = fields_fine l list_room parted_accepted h
-
-    pub more_octets : 1 < length l
-    more_octets = (parts_fit l parts).0
 
     pub tail_within : tail_at l ≤ length l
     tail_within = (parts_fit l parts).1

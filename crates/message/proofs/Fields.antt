@@ -9,9 +9,7 @@ use borrow.Author.Tests.{eqb-true}
 use lib.Dec.{eqb}
 use lib.ListN.{length}
 use Rattle.octets.specs.Places.{pick}
-use Rattle.tree.specs.Form.{and_then, field_form}
-use Rattle.tree.specs.declared.Form.{Form}
-use Rattle.tree.specs.declared.Form.TheVariants.{Fine, Left}
+use Rattle.tree.specs.Form.{Form, Fine, Left, and_then, field_form}
 use Rattle.tree.proofs.Forms.{and_parts, field_fits}
 use Rattle.message.specs.Nonstandard.{ns_announced, tail_form}
 use Rattle.message.specs.Reader.{standard_at, tail_at}

@@ -9,19 +9,18 @@ use lib.ListN.{length}
 use Rattle.octets.specs.Lay.{over}
 use Rattle.tree.specs.Codes.{field_base, field_codes}
 use Rattle.tree.specs.Fields.{fours, most_octets}
-use Rattle.tree.specs.Form.{is_fine}
-use Rattle.tree.specs.declared.Form.{Form}
-use Rattle.tree.specs.declared.Form.TheVariants.{Fine, Early, Wrong, Left, BadLength}
+use Rattle.tree.specs.Form.{Form, Fine, Early, Wrong, Left, BadLength, is_fine}
 use Rattle.message.specs.Kinds.{known, has_fields, type_of, revision_of}
 use Rattle.message.specs.Reader.{list_room, standard_at, message_form, message_codes, ns_place, ns_size, refused, accepted, judged, read_message, refusal, read_told}
 use Rattle.message.specs.Inner.{ReadsBoth}
-use Rattle.message.specs.declared.MessageRead.{MessageRead}
-use Rattle.message.specs.declared.MessageRead.TheVariants.{Read}
+use Rattle.std.specs.Prelude.{Result, Ok}
+use Rattle.message.specs.declared.Message.{Message}
+use Rattle.message.specs.declared.MessageReadRefusal.{MessageReadRefusal}
 use Rattle.message.specs.declared.Span.{Span}
 use Rattle.message.proofs.Fields.{whole}
 
 -- a refusal gives its number and leaves the lists
-pub refuses : (l : List ℕ) (room : ℕ) (list octets : List ℕ) (k : ℕ) (r : MessageRead) → read_message l room ≡ refused k → read_told r ≡ refusal k
+pub refuses : (l : List ℕ) (room : ℕ) (list octets : List ℕ) (k : ℕ) (r : Result Message MessageReadRefusal) → read_message l room ≡ refused k → read_told r ≡ refusal k
     → ReadsBoth l room list octets r list octets
 unfolding over fours
 refuses l room list octets k r e t = record { reply = rw e t; list = rw e; octets = rw e }
@@ -29,7 +28,7 @@ refuses l room list octets k r e t = record { reply = rw e t; list = rw e; octet
 -- a well-formed message gives its type and revision, the number of its codes and the place of its NS, and leaves its codes in the lists
 pub accepts : (l : List ℕ) (room : ℕ) (list₀ octets₀ list₁ octets₁ : List ℕ) (kind n : ℕ) (ns : Span) → read_message l room ≡ accepted → kind ≡ type_of l
     → n ≡ length (message_codes l) → ns.at ≡ ns_place l → ns.length ≡ ns_size l → list₁ ≡ over (message_codes l) list₀ → octets₁ ≡ over (fours (message_codes l)) octets₀
-    → ReadsBoth l room list₀ octets₀ (Read (record { kind = kind; revision = revision_of l; count = n; ns = ns })) list₁ octets₁
+    → ReadsBoth l room list₀ octets₀ (Ok (record { kind = kind; revision = revision_of l; count = n; ns = ns })) list₁ octets₁
 accepts l room list₀ octets₀ list₁ octets₁ kind n ns e k c p s h o = record { reply = rw (e, k, c, p, s); list = rw e h; octets = rw e o }
 
 -- ---- the checks

@@ -1,11 +1,10 @@
 -- To be believed: the non-standard field (V.8 bis 8.5): one or more blocks, each a length of 2 to 63 and that many octets, filling
 -- the field.
 -- Assumes nothing.
+use Rattle.tree.specs.Form.{Form, Fine, Early, Left, BadLength}
 use Rattle.std.specs.Prelude.{ℕ, zero, suc, ◌+◌, ◌/◌, Bool, List, ltb, leb, eqb, length, get_or}
 use Rattle.octets.specs.Bits.{odd}
 use Rattle.octets.specs.Places.{pick}
-use Rattle.tree.specs.declared.Form.{Form}
-use Rattle.tree.specs.declared.Form.TheVariants.{Fine, Early, Left, BadLength}
 
 -- it is present exactly if bit 7 of the first I NPar(1) octet is set
 abbrev pub ns_announced : List ℕ → Bool

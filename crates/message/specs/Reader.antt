@@ -1,18 +1,17 @@
 -- To be believed: what the message reader answers, by the rules' numbers, and what it leaves in the list.
 -- Assumes nothing.
-use Rattle.std.specs.Prelude.{ℕ, ◌-◌, ◌/◌, Bool, true, false, not, List, [], ◌++◌, ◌≡◌, ltb, eqb, length, take, drop}
+use Rattle.std.specs.Prelude.{ℕ, ◌-◌, ◌/◌, Bool, true, false, not, List, [], ◌++◌, ◌≡◌, ltb, eqb, length, take, drop, Result, Ok, Err}
 use Rattle.octets.specs.Lay.{put}
 use Rattle.octets.specs.Places.{pick}
 use Rattle.tree.specs.Codes.{field_base, field_codes, field_behind}
 use Rattle.tree.specs.Fields.{most_octets, fours}
-use Rattle.tree.specs.Form.{and_then, field_form}
-use Rattle.tree.specs.declared.Form.{Form}
-use Rattle.tree.specs.declared.Form.TheVariants.{Fine, Early, Wrong, Left, BadLength}
+use Rattle.tree.specs.Form.{Form, Fine, Early, Wrong, Left, BadLength, and_then, field_form}
 use Rattle.message.specs.Kinds.{known, has_fields, type_of, revision_of}
 use Rattle.message.specs.Nonstandard.{ns_announced, tail_form}
 use Rattle.message.specs.declared.Span.{Span}
-use Rattle.message.specs.declared.MessageRead.{MessageRead}
-use Rattle.message.specs.declared.MessageRead.TheVariants.{Read, BadLent, BadSize, UnknownType, Malformed}
+use Rattle.message.specs.declared.Message.{Message}
+use Rattle.message.specs.declared.MessageReadRefusal.{MessageReadRefusal}
+use Rattle.message.specs.declared.MessageReadRefusal.TheVariants.{BadLent, BadSize, UnknownType, Malformed}
 
 abbrev pub list_room : ℕ
 list_room = 448
@@ -87,12 +86,12 @@ abbrev pub refusal : ℕ → Reply
 refusal k = record { no = k; kind = 0; revision = 0; count = 0; ns_at = 0; ns_length = 0 }
 
 -- each answer's number and values
-abbrev pub read_told : MessageRead → Reply
-read_told (Read m) = record { no = 0; kind = m.kind; revision = m.revision; count = m.count; ns_at = m.ns.at; ns_length = m.ns.length }
-read_told BadLent = refusal 1
-read_told BadSize = refusal 2
-read_told UnknownType = refusal 3
-read_told Malformed = refusal 4
+abbrev pub read_told : Result Message MessageReadRefusal → Reply
+read_told (Ok m) = record { no = 0; kind = m.kind; revision = m.revision; count = m.count; ns_at = m.ns.at; ns_length = m.ns.length }
+read_told (Err BadLent) = refusal 1
+read_told (Err BadSize) = refusal 2
+read_told (Err UnknownType) = refusal 3
+read_told (Err Malformed) = refusal 4
 
 abbrev pub read_reply : Reading → List ℕ → Reply
 read_reply (refused k) l = refusal k
@@ -105,7 +104,7 @@ codes_read (refused k) l = []
 codes_read accepted l = message_codes l
 
 -- the reply r and the list list₁ are those of reading the message l into list₀: the codes, and nothing behind them
-pub record Reads (l list₀ : List ℕ) (r : MessageRead) (list₁ : List ℕ) : Type 0 where
+pub record Reads (l list₀ : List ℕ) (r : Result Message MessageReadRefusal) (list₁ : List ℕ) : Type 0 where
   pub reply : read_told r ≡ read_reply (read_message l (length list₀)) l
   pub list : list₁ ≡ put (codes_read (read_message l (length list₀)) l) list₀
 
@@ -114,20 +113,17 @@ abbrev pub room_of : List ℕ → ℕ
 room_of list = length list / 4
 
 -- the same with a list of octets, four to a code
-pub record ReadsOctets (l list₀ : List ℕ) (r : MessageRead) (list₁ : List ℕ) : Type 0 where
+pub record ReadsOctets (l list₀ : List ℕ) (r : Result Message MessageReadRefusal) (list₁ : List ℕ) : Type 0 where
   pub reply : read_told r ≡ read_reply (read_message l (room_of list₀)) l
   pub list : list₁ ≡ put (fours (codes_read (read_message l (room_of list₀)) l)) list₀
 
 -- where an answer says that NS lies
-abbrev pub span_told : MessageRead → Span
-span_told (Read m) = m.ns
-span_told BadLent = record { at = 0; length = 0 }
-span_told BadSize = record { at = 0; length = 0 }
-span_told UnknownType = record { at = 0; length = 0 }
-span_told Malformed = record { at = 0; length = 0 }
+abbrev pub span_told : Result Message MessageReadRefusal → Span
+span_told (Ok m) = m.ns
+span_told (Err e) = record { at = 0; length = 0 }
 
 -- the NS that an answer tells of, as a part of the message; nothing where it tells of octets that are not there
-unfoldable pub ns_told : MessageRead → List ℕ → List ℕ
+unfoldable pub ns_told : Result Message MessageReadRefusal → List ℕ → List ℕ
 ns_told r l =
     pick (ltb (length l) (span_told r).at) []
     (pick (ltb (length l - (span_told r).at) (span_told r).length) []

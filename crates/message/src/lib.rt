@@ -1,36 +1,57 @@
 // Messages (V.8 bis clause 8): the message reader, and NS as a part of a message.
 #![tactic(auto)]
 
-ghost use Rattle.std.specs.Prelude.{◌≡◌, true, ◌-◌, ◌≤◌, ◌<◌, length};
+ghost use Rattle.std.specs.Prelude.{◌≡◌, true, ◌-◌, ◌≤◌, ◌<◌, ltb, length};
 ghost use Rattle.octets.specs.Places.{pick};
-ghost use Rattle.message.specs.Kinds.{known, has_fields, type_of};
-ghost use Rattle.message.specs.Nonstandard.{ns_announced, tail_form};
+ghost use Rattle.message.specs.Kinds.{known, has_fields, type_of, type_number};
+ghost use Rattle.message.specs.Nonstandard.{tail_form};
 ghost use Rattle.tree.specs.Fields.{most_octets};
+ghost use Rattle.tree.specs.Form.{told};
 ghost use Rattle.message.specs.Reader.{list_room, Reads, ReadsOctets, span_told};
 ghost use Rattle.message.specs.Inner.{ReadsBoth};
-ghost use Rattle.message.specs.Promises.{TellsKnown, TellsFields, TellsNsForm, Checks, TellsNs};
+ghost use Rattle.message.specs.Promises.{TellsType, TellsRefusal, TellsKnown, TellsFields, TellsNsForm, Checks, TellsNs};
 
 use fill::fill_fields;
-use tree::{Form, MOST_OCTETS, field_end, is_fine};
+use tree::{Fault, MOST_OCTETS, field_end};
 
-// The types of messages (V.8 bis, Table 3), of which those before ACK(1) have fields.
-pub const MS: u8 = 1;
+// The types of messages that are used here (V.8 bis, Table 3), of which those before ACK(1) have fields.
+#[derive(Clone, Copy, Debug, PartialEq, Eq)]
+pub enum MessageType {
+    Ms = 1,
+    Cl = 2,
+    Clr = 3,
+    Ack1 = 4,
+    Ack2 = 5,
+    Nak1 = 8,
+    Nak2 = 9,
+    Nak3 = 10,
+    Nak4 = 11,
+}
 
-pub const CL: u8 = 2;
+// A number that none of them has.
+#[derive(Clone, Copy, Debug, PartialEq, Eq)]
+pub struct UnknownKind;
 
-pub const CLR: u8 = 3;
+impl TryFrom<u8> for MessageType {
+    type Error = UnknownKind;
 
-pub const ACK_1: u8 = 4;
+    ghost try_from_gives = { TellsType };
 
-pub const ACK_2: u8 = 5;
-
-pub const NAK_1: u8 = 8;
-
-pub const NAK_2: u8 = 9;
-
-pub const NAK_3: u8 = 10;
-
-pub const NAK_4: u8 = 11;
+    fn try_from(kind: u8) -> Result<Self, UnknownKind> {
+        match kind {
+            1 => Ok(MessageType::Ms),
+            2 => Ok(MessageType::Cl),
+            3 => Ok(MessageType::Clr),
+            4 => Ok(MessageType::Ack1),
+            5 => Ok(MessageType::Ack2),
+            8 => Ok(MessageType::Nak1),
+            9 => Ok(MessageType::Nak2),
+            10 => Ok(MessageType::Nak3),
+            11 => Ok(MessageType::Nak4),
+            _ => Err(UnknownKind),
+        }
+    }
+}
 
 const LIST_ROOM: usize = 448;
 
@@ -45,7 +66,8 @@ pub struct Span {
     pub length: usize,
 }
 
-// A message that was read: its type and revision, how many codes it has, and where its NS lies.
+// A message that was read: its type and revision, how many codes it has, and where its NS lies. The type is a number, so that `ns_part`
+// takes any message.
 #[derive(Clone, Copy)]
 pub struct Message {
     pub kind: u8,
@@ -54,41 +76,51 @@ pub struct Message {
     pub ns: Span,
 }
 
-// The message reader's answer. BadLent: the list has room for fewer than 448 numbers.
-#[derive(Clone, Copy)]
-pub enum MessageRead {
-    Read(Message),
-    BadLent,
-    BadSize,
-    UnknownType,
-    Malformed,
+// Why a message is refused, by the rules' number.
+#[derive(Clone, Copy, Debug, PartialEq, Eq)]
+pub enum MessageFault {
+    BadSize = 2,
+    UnknownType = 3,
+    Malformed = 4,
 }
 
-// Whether a type is one of those of Table 3 that are used here.
+// Why the message reader refuses, by the rules' number. BadLent: the list has room for fewer than 448 numbers.
+#[derive(Clone, Copy, Debug, PartialEq, Eq)]
+pub enum MessageReadRefusal {
+    BadLent = 1,
+    BadSize = 2,
+    UnknownType = 3,
+    Malformed = 4,
+}
+
+impl From<MessageFault> for MessageReadRefusal {
+    ghost from_gives = { TellsRefusal };
+
+    fn from(fault: MessageFault) -> Self {
+        match fault {
+            MessageFault::BadSize => MessageReadRefusal::BadSize,
+            MessageFault::UnknownType => MessageReadRefusal::UnknownType,
+            MessageFault::Malformed => MessageReadRefusal::Malformed,
+        }
+    }
+}
+
+// Whether a type is one of those that are used here.
 pub fn is_known(kind: u8) -> bool
     ensures { TellsKnown kind result }
 {
-    if kind < MS {
-        return false;
-    }
-    if kind <= ACK_2 {
-        return true;
-    }
-    if kind < NAK_1 {
-        return false;
-    }
-    kind <= NAK_4
+    MessageType::try_from(kind).is_ok()
 }
 
 // Whether a known type has fields.
 pub fn has_fields(kind: u8) -> bool
     ensures { TellsFields kind result }
 {
-    kind < ACK_1
+    kind < MessageType::Ack1 as u8
 }
 
-// The form of the NS blocks from a place on. One is due there.
-pub fn ns_form(s: &[u8], start: usize) -> Form
+// The form of the NS blocks from a place on. One is due there. A block tells how long it is, so places are counted.
+pub fn ns_form(s: &[u8], start: usize) -> Result<(), Fault>
     ensures { TellsNsForm s.now start result }
 {
     let size = s.len();
@@ -96,160 +128,137 @@ pub fn ns_form(s: &[u8], start: usize) -> Form
     while e < size {
         let n = s[e] as usize;
         if n < FEWEST_NS {
-            return Form::BadLength(e);
+            return Err(Fault::BadLength(e));
         }
         if MOST_NS < n {
-            return Form::BadLength(e);
+            return Err(Fault::BadLength(e));
         }
         if size - e - 1 < n {
-            return Form::Early(size);
+            return Err(Fault::Early(size));
         }
         e = e + 1 + n;
         if e == size {
-            return Form::Fine;
+            return Ok(());
         }
     }
-    Form::Early(size)
+    Err(Fault::Early(size))
 }
 
 // The form of what stands behind S, from a place on.
-fn tail_form(s: &[u8], e: usize) -> Form
+fn tail_form(s: &[u8], e: usize) -> Result<(), Fault>
     requires { 1 < length s.now }
-    ensures { result ≡ tail_form s.now e }
+    ensures { result ≡ told (tail_form s.now e) tt }
 {
     if (s[1] / 64) % 2 == 1 {
         return ns_form(s, e);
     }
     if e == s.len() {
-        return Form::Fine;
+        return Ok(());
     }
-    Form::Left(e)
+    Err(Fault::Left(e))
 }
 
-// The NS of a well-formed message, which begins at a place if there is one.
+// The NS of a message: all from a place on, nowhere where nothing is there.
 fn ns_span(s: &[u8], tail: usize) -> Span
-    requires { (1 < length s.now) × (tail ≤ length s.now) }
-    ensures { (result.at ≡ pick (ns_announced s.now) tail 0) × (result.length ≡ pick (ns_announced s.now) (length s.now - tail) 0) }
+    requires { tail ≤ length s.now }
+    ensures { (result.at ≡ pick (ltb tail (length s.now)) tail 0) × (result.length ≡ length s.now - tail) }
 {
-    if (s[1] / 64) % 2 == 1 {
-        return Span {
-            at: tail,
-            length: s.len() - tail,
-        };
+    let at = if tail < s.len() { tail } else { 0 };
+    Span {
+        at,
+        length: s.len() - tail,
     }
-    Span { at: 0, length: 0 }
 }
 
 // A well-formed message: its type, and where S and what is behind S begin. An ACK and a NAK have neither.
 #[derive(Clone, Copy)]
 pub struct Parts {
-    pub kind: u8,
+    pub kind: MessageType,
     pub standard: usize,
     pub tail: usize,
 }
 
-// What a message is found to be.
-#[derive(Clone, Copy)]
-pub enum MessageCheck {
-    Parted(Parts),
-    BadSize,
-    UnknownType,
-    Malformed,
-}
-
 // A message with fields: I, then S, then what is behind S decides. Asked only for the ends of the fields, the back end keeps no form
-// of theirs on the stack.
-fn check_fields(s: &[u8]) -> MessageCheck
-    requires { (0 < length s.now) × (length s.now ≤ most_octets) × (known (type_of s.now) ≡ true) × (has_fields (type_of s.now) ≡ true) }
+// of theirs on the stack; an error made of each end by the library takes 50 octets of ROM more, and the C header leaves no room.
+fn check_fields(s: &[u8], kind: MessageType) -> Result<Parts, MessageFault>
+    requires { (0 < length s.now) × (length s.now ≤ most_octets) × (known (type_of s.now) ≡ true) × (has_fields (type_of s.now) ≡ true) × (type_number kind ≡ type_of s.now) }
     ensures { Checks s.now result }
 {
-    let standard = field_end(s, 1);
-    if standard == 0 {
-        return MessageCheck::Malformed;
+    let Some(standard) = field_end(s, 1) else {
+        return Err(MessageFault::Malformed);
+    };
+    let Some(tail) = field_end(s, standard) else {
+        return Err(MessageFault::Malformed);
+    };
+    if tail_form(s, tail).is_err() {
+        return Err(MessageFault::Malformed);
     }
-    let tail = field_end(s, standard);
-    if tail == 0 {
-        return MessageCheck::Malformed;
-    }
-    if !is_fine(tail_form(s, tail)) {
-        return MessageCheck::Malformed;
-    }
-    MessageCheck::Parted(Parts {
-        kind: s[0] % 16,
+    Ok(Parts {
+        kind,
         standard,
         tail,
     })
 }
 
 // Whether a message is well-formed, and where its parts begin: refusals 2 to 4 of the message reader.
-pub fn check_message(s: &[u8]) -> MessageCheck
+pub fn check_message(s: &[u8]) -> Result<Parts, MessageFault>
     ensures { Checks s.now result }
 {
     if s.len() == 0 {
-        return MessageCheck::BadSize;
+        return Err(MessageFault::BadSize);
     }
     if MOST_OCTETS < s.len() {
-        return MessageCheck::BadSize;
+        return Err(MessageFault::BadSize);
     }
-    let kind = s[0] % 16;
-    if !is_known(kind) {
-        return MessageCheck::UnknownType;
-    }
-    if has_fields(kind) {
-        return check_fields(s);
+    let number = s[0] % 16;
+    let Ok(kind) = MessageType::try_from(number) else {
+        return Err(MessageFault::UnknownType);
+    };
+    if has_fields(number) {
+        return check_fields(s, kind);
     }
     if s.len() != 1 {
-        return MessageCheck::Malformed;
+        return Err(MessageFault::Malformed);
     }
-    MessageCheck::Parted(Parts {
+    Ok(Parts {
         kind,
         standard: 1,
         tail: 1,
     })
 }
 
-// Reads a well-formed message, whose parts are known: its codes into both lists.
-fn read_parts(s: &[u8], parts: Parts, list: &mut [u32], octets: &mut [u8]) -> MessageRead
-    requires { Checks s.now (MessageCheck.Parted parts) }
-    ensures { ReadsBoth s.now list_room list.old octets.old result list.new octets.new }
+// Reads a well-formed message, whose parts are known: its codes into both lists. Behind an ACK and a NAK there are none.
+fn read_parts(s: &[u8], parts: Parts, list: &mut [u32], octets: &mut [u8]) -> Message
+    requires { Checks s.now (Ok parts) }
+    ensures { ReadsBoth s.now list_room list.old octets.old (Ok result) list.new octets.new }
 {
-    let kind = parts.kind;
-    let revision = s[0] / 16;
-    if !has_fields(kind) {
-        return MessageRead::Read(Message {
-            kind,
-            revision,
-            count: 0,
-            ns: Span { at: 0, length: 0 },
-        });
+    Message {
+        kind: s[0] % 16,
+        revision: s[0] / 16,
+        count: fill_fields(s, 1, parts.standard, list, octets),
+        ns: ns_span(s, parts.tail),
     }
-    let count = fill_fields(s, 1, parts.standard, list, octets);
-    let ns = ns_span(s, parts.tail);
-    MessageRead::Read(Message {
-        kind,
-        revision,
-        count,
-        ns,
-    })
 }
 
-// Reads a message into both lists, with room for so many numbers: the caller lends an empty one for the form that it does not want.
-fn read_both(s: &[u8], room: usize, list: &mut [u32], octets: &mut [u8]) -> MessageRead
+// Reads a message into both lists, with room for so many numbers: the caller lends an empty one for the form that it does not want, as
+// `fill_fields` takes them.
+fn read_both(
+    s: &[u8],
+    room: usize,
+    list: &mut [u32],
+    octets: &mut [u8],
+) -> Result<Message, MessageReadRefusal>
     ensures { ReadsBoth s.now room list.old octets.old result list.new octets.new }
 {
     if room < LIST_ROOM {
-        return MessageRead::BadLent;
+        return Err(MessageReadRefusal::BadLent);
     }
-    match check_message(s) {
-        MessageCheck::Parted(parts) => read_parts(s, parts, list, octets),
-        MessageCheck::BadSize => MessageRead::BadSize,
-        MessageCheck::UnknownType => MessageRead::UnknownType,
-        MessageCheck::Malformed => MessageRead::Malformed,
-    }
+    let parts = check_message(s)?;
+    Ok(read_parts(s, parts, list, octets))
 }
 
 // The message reader: it fills the first numbers of the list with the message's codes, in ascending order.
-pub fn read_message(s: &[u8], list: &mut [u32]) -> MessageRead
+pub fn read_message(s: &[u8], list: &mut [u32]) -> Result<Message, MessageReadRefusal>
     ensures { Reads s.now list.old result list.new }
 {
     let room = list.len();
@@ -257,8 +266,8 @@ pub fn read_message(s: &[u8], list: &mut [u32]) -> MessageRead
     read_both(s, room, list, &mut none)
 }
 
-// The same into a list of octets, four to a code, lowest first.
-pub fn read_octets(s: &[u8], list: &mut [u8]) -> MessageRead
+// The same into a list of octets, four to a code, lowest first: two functions to call, one way through `read_both`.
+pub fn read_octets(s: &[u8], list: &mut [u8]) -> Result<Message, MessageReadRefusal>
     ensures { ReadsOctets s.now list.old result list.new }
 {
     let room = list.len() / 4;
@@ -267,20 +276,18 @@ pub fn read_octets(s: &[u8], list: &mut [u8]) -> MessageRead
 }
 
 // Where an answer says that NS lies; a refusal says nowhere.
-fn told_span(answer: MessageRead) -> Span
+fn told_span(answer: Result<Message, MessageReadRefusal>) -> Span
     ensures { result ≡ span_told answer }
 {
     match answer {
-        MessageRead::Read(m) => m.ns,
-        MessageRead::BadLent => Span { at: 0, length: 0 },
-        MessageRead::BadSize => Span { at: 0, length: 0 },
-        MessageRead::UnknownType => Span { at: 0, length: 0 },
-        MessageRead::Malformed => Span { at: 0, length: 0 },
+        Ok(m) => m.ns,
+        Err(_) => Span { at: 0, length: 0 },
     }
 }
 
-// The NS that an answer tells of, as a part of the message; empty where the answer is a refusal.
-pub fn ns_part(s: &[u8], answer: MessageRead) -> &[u8]
+// The NS that an answer tells of, as a part of the message; empty where the answer is a refusal. The answer may be of another message,
+// so both its numbers are tested.
+pub fn ns_part(s: &[u8], answer: Result<Message, MessageReadRefusal>) -> &[u8]
     ensures { TellsNs s.now answer result.now }
 {
     let span = told_span(answer);

@@ -1,14 +1,13 @@
 -- Which blocks the tables print: a block that stands under any code passes what every printed block passes, or nothing is printed of it.
 -- Assumes nothing.
-use Prim.Native.Nat.{ℕ, ◌/◌, ◌<◌, ◌≤◌}
+use Prim.Native.Nat.{ℕ, ◌≤◌}
 use mathlib.Core.Bool.{Bool, true, false}
 use mathlib.Core.List.{List, [], ◌∷◌}
 use mathlib.Core.Logic.{◌⊎◌, inl, inr, ⊎_elim}
 use mathlib.Core.Path.{◌≡◌, refl, sym, ap}
 use native.Mathlib.Omega.{arith}
-use borrow.Author.Tests.{eqb-true, ne_eqb, lt-leb, le-ltb}
-use lib.Dec.{ltb, leb, eqb}
-use Rattle.tree.specs.Codes.{of_s}
+use borrow.Author.Tests.{eqb-true, ne_eqb, le-ltb}
+use lib.Dec.{ltb, eqb}
 use Rattle.octets.specs.Bits.{num}
 use Rattle.octets.specs.Places.{pick}
 use Rattle.names.specs.Tables.{Printed, PrintedBlock, npar_blocks}
@@ -38,10 +37,6 @@ under_every t (b ∷ bs) c h = go (t b.under b.printed) refl h (under_every t bs
 
 -- ---- bits of a block by its code
 
--- a code that is known to be another has its bits
-pub mask_at : (f : Printed → Bool) (bs : List PrintedBlock) (c x m : ℕ) → c ≡ x → m ≡ mask_of f (printed_under x bs) → m ≡ mask_of f (printed_under c bs)
-mask_at f bs c x m e h = rw e h
-
 -- where every block whose code fails a test has no bits, no code that fails it has
 pub mask_zero : (f : Printed → Bool) (t : ℕ → Bool) (bs : List PrintedBlock) (c : ℕ) → every (λ x printed. pick (t x) true (eqb (mask_of f printed) 0)) bs ≡ true → t c ≡ false
     → 0 ≡ mask_of f (printed_under c bs)
@@ -49,12 +44,16 @@ unfolding mask_of
 mask_zero f t bs c h e =
     ⊎_elim (λ n. rw n) (λ p. sym (eqb-true (mask_of f (printed_under c bs)) 0 (rw e at p))) (under_every (λ x printed. pick (t x) true (eqb (mask_of f printed) 0)) bs c h)
 
--- below S, NPar blocks stand under 1.0.0.0 and 1.1.0.0 only
-pub mask_low : (f : Printed → Bool) (c : ℕ) → (c / of_s ≡ 512 → ⊥) → (c / of_s ≡ 513 → ⊥) → c / of_s < 1024 → 0 ≡ mask_of f (printed_under c npar_blocks)
-unfolding every
-mask_low f c h k l =
-    mask_zero f (λ x. pick (eqb (x / of_s) 512) true (pick (eqb (x / of_s) 513) true (leb 1024 (x / of_s)))) npar_blocks c refl
-    (rw (ne_eqb (c / of_s) 512 h, ne_eqb (c / of_s) 513 k, lt-leb 1024 (c / of_s) l))
+-- a code that is that of no block
+unfoldable pub Apart : ℕ → List PrintedBlock → Type 0
+Apart c [] = Unit {0}
+Apart c (b ∷ bs) = (c ≡ b.under → ⊥) × Apart c bs
+
+-- has no bits
+pub mask_none : (f : Printed → Bool) (bs : List PrintedBlock) (c : ℕ) → Apart c bs → 0 ≡ mask_of f (printed_under c bs)
+unfolding Apart printed_under
+mask_none f [] c a = unfold mask_of in refl
+mask_none f (b ∷ bs) c a = rw (ne_eqb b.under c (λ e. a.0 (sym e))) (mask_none f bs c a.1)
 
 -- and where none that stands under b or above has bits, no such code has
 pub mask_high : (f : Printed → Bool) (b c : ℕ) → every (λ x printed. pick (ltb x b) true (eqb (mask_of f printed) 0)) npar_blocks ≡ true → b ≤ c

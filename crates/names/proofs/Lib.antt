@@ -1,5 +1,4 @@
 pub mod Sieving
-pub mod Arms
 pub mod Blocks
 pub mod Printings
 pub mod Strictness

@@ -12,8 +12,8 @@ use lib.ListN.{length, get_or, take, drop, get_or-eq_default}
 use lib.Seq.{drop-cons}
 use native.Mathlib.Numerals.{add-one}
 use Rattle.octets.specs.Bits.{odd, bits}
-use Rattle.octets.specs.Places.{pick, bit_of, is_one, bit_at, last_place, place_after, both}
-use Rattle.octets.specs.declared.Bit.TheVariants.{End}
+use Rattle.std.specs.Prelude.{Some, None}
+use Rattle.octets.specs.Places.{pick, is_one, bit_at, last_place, place_after, both}
 
 -- n octets have 8 n bits
 pub length_bits : (s : List ℕ) → length (bits s) ≡ length s * 8
@@ -47,11 +47,11 @@ in_run s i = go (ltb (i / 8) (length s)) refl
     go false e = le-ltb i (length (bits s)) (omega (arith, length_bits s, ltb-false (i / 8) (length s) e))
 
 -- the bit at a place of the run
-pub bit_in : (s : List ℕ) (i : ℕ) → i / 8 < length s → bit_at s i ≡ bit_of (odd (get_or s (i / 8) 0 / 2 ^ (i % 8)))
+pub bit_in : (s : List ℕ) (i : ℕ) → i / 8 < length s → bit_at s i ≡ Some (odd (get_or s (i / 8) 0 / 2 ^ (i % 8)))
 bit_in s i h = rw (in_run s i, lt-ltb (i / 8) (length s) h, bit_is s i)
 
 -- behind the run is the end
-pub bit_end : (s : List ℕ) (i : ℕ) → length s ≤ i / 8 → bit_at s i ≡ End
+pub bit_end : (s : List ℕ) (i : ℕ) → length s ≤ i / 8 → bit_at s i ≡ None
 bit_end s i h = rw (in_run s i, le-ltb (i / 8) (length s) h)
 
 -- the place after a bit of the run is the next one
@@ -74,12 +74,8 @@ after_last s i h = rw (le-ltb i last_place h)
 pub one_at : (s : List ℕ) (i : ℕ) → is_one (bit_at s i) ≡ get_or (bits s) i false
 one_at s i = go (ltb i (length (bits s))) refl
   where
-    one_of : (b : Bool) → is_one (bit_of b) ≡ b
-    one_of true = refl
-    one_of false = refl
-
-    go : (t : Bool) → ltb i (length (bits s)) ≡ t → is_one (pick t (bit_of (get_or (bits s) i false)) End) ≡ get_or (bits s) i false
-    go true e = one_of (get_or (bits s) i false)
+    go : (t : Bool) → ltb i (length (bits s)) ≡ t → is_one (pick t (Some (get_or (bits s) i false)) None) ≡ get_or (bits s) i false
+    go true e = refl
     go false e = sym (get_or-eq_default (bits s) false (ltb-false i (length (bits s)) e))
 
 -- the bits of two runs, one after the other

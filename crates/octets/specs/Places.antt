@@ -1,9 +1,7 @@
 -- To be believed: what stands at a place of a run, counted in bits from 0, and the place after it.
 -- Assumes nothing.
-use Rattle.std.specs.Prelude.{ℕ, ◌+◌, Bool, true, false, List, ltb, length, get_or}
+use Rattle.std.specs.Prelude.{ℕ, ◌+◌, Bool, true, false, Option, Some, None, List, ltb, length, get_or}
 use Rattle.octets.specs.Bits.{bits}
-use Rattle.octets.specs.declared.Bit.{Bit}
-use Rattle.octets.specs.declared.Bit.TheVariants.{Zero, One, End}
 
 -- a where the test holds, else b
 abbrev pub pick : {A : Type 0} → Bool → A → A → A
@@ -14,18 +12,14 @@ pick false a b = b
 abbrev pub both : Bool → Bool → Bool
 both s t = pick s t false
 
-abbrev pub bit_of : Bool → Bit
-bit_of true = One
-bit_of false = Zero
+-- whether a bit is a one; the end of the run is none
+abbrev pub is_one : Option Bool → Bool
+is_one (Some b) = b
+is_one None = false
 
-abbrev pub is_one : Bit → Bool
-is_one One = true
-is_one Zero = false
-is_one End = false
-
--- the bit at a place, or the end of the run
-abbrev pub bit_at : List ℕ → ℕ → Bit
-bit_at run at = pick (ltb at (length (bits run))) (bit_of (get_or (bits run) at false)) End
+-- the bit at a place, or none at the end of the run
+abbrev pub bit_at : List ℕ → ℕ → Option Bool
+bit_at run at = pick (ltb at (length (bits run))) (Some (get_or (bits run) at false)) None
 
 -- the highest place that a number of 64 bits can name
 abbrev pub last_place : ℕ

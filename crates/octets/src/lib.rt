@@ -1,53 +1,32 @@
 // What every layer needs of octets: the bits of a run, a cursor over them, eight bits as a number, and copying.
 #![tactic(auto)]
 
-ghost use Rattle.std.specs.Prelude.{◌≡◌, min};
 ghost use Rattle.octets.specs.Promises.{TellsBit, TellsOne, TellsPlaceAfter, IsReader, TellsNextBit, IsMovedOn, TellsBitAfter, TellsOctetOrZero, TellsOctet, CopiesFront};
 
 // The highest place that a usize can name.
-const LAST_PLACE: usize = 18446744073709551615;
+const LAST_PLACE: usize = usize::MAX;
 
-// What stands at a place of a run.
-#[derive(Clone, Copy)]
-pub enum Bit {
-    Zero,
-    One,
-    End,
-}
-
-// The bit at a place of a run, counted from 0 with bit 1 of the first octet.
-pub fn bit_at(run: &[u8], at: usize) -> Bit
+// The bit at a place of a run, counted from 0 with bit 1 of the first octet; behind the end there is none.
+pub fn bit_at(run: &[u8], at: usize) -> Option<bool>
     ensures { TellsBit run.now at result }
 {
-    let i = at / 8;
-    if i < run.len() {
-        if (run[i] >> (at % 8)) % 2 == 1 {
-            return Bit::One;
-        }
-        return Bit::Zero;
-    }
-    Bit::End
+    let octet = *run.get(at / 8)?;
+    Some((octet >> (at % 8)) % 2 == 1)
 }
 
 // Whether a bit is a one; the end is none.
-pub fn is_one(b: Bit) -> bool
-    ensures { TellsOne b result }
+pub fn is_one(bit: Option<bool>) -> bool
+    ensures { TellsOne bit result }
 {
-    match b {
-        Bit::Zero => false,
-        Bit::One => true,
-        Bit::End => false,
-    }
+    bit.unwrap_or(false)
 }
 
 // The place after a bit of a run.
 pub fn place_after(run: &[u8], at: usize) -> usize
     ensures { TellsPlaceAfter run.now at result }
 {
-    if at < LAST_PLACE {
-        if at / 8 < run.len() {
-            return at + 1;
-        }
+    if at < LAST_PLACE && at / 8 < run.len() {
+        return at + 1;
     }
     at
 }
@@ -59,46 +38,44 @@ pub struct BitReader<'a> {
     pub at: usize,
 }
 
-// A reader of a run, from a place on.
-pub fn reader_at<'a>(run: &'a [u8], at: usize) -> BitReader<'a>
-    ensures { IsReader run.entry at result }
-{
-    BitReader { run, at }
-}
+impl<'a> BitReader<'a> {
+    // A reader of a run, from a place on.
+    pub fn new(run: &'a [u8], at: usize) -> BitReader<'a>
+        ensures { IsReader run.entry at result }
+    {
+        BitReader { run, at }
+    }
 
-// The next bit of a reader.
-pub fn next_bit<'a>(r: BitReader<'a>) -> Bit
-    ensures { TellsNextBit r.entry result }
-{
-    bit_at(r.run, r.at)
-}
+    // The next bit of a reader.
+    pub fn next_bit(self) -> Option<bool>
+        ensures { TellsNextBit self.entry result }
+    {
+        bit_at(self.run, self.at)
+    }
 
-// The reader behind its next bit.
-pub fn moved_on<'a>(r: BitReader<'a>) -> BitReader<'a>
-    ensures { IsMovedOn r.entry result }
-{
-    let next = place_after(r.run, r.at);
-    BitReader {
-        run: r.run,
-        at: next,
+    // The reader behind its next bit.
+    pub fn moved_on(self) -> BitReader<'a>
+        ensures { IsMovedOn self.entry result }
+    {
+        BitReader {
+            run: self.run,
+            at: place_after(self.run, self.at),
+        }
     }
 }
 
 // The bit behind a place of a run, by the cursor; whoever calls this needs to know nothing of it.
-pub fn bit_after(run: &[u8], at: usize) -> Bit
+pub fn bit_after(run: &[u8], at: usize) -> Option<bool>
     ensures { TellsBitAfter run.now at result }
 {
-    next_bit(moved_on(reader_at(run, at)))
+    BitReader::new(run, at).moved_on().next_bit()
 }
 
 // The octet of a run at a place, or 0 behind its end.
 pub fn octet_or_zero(run: &[u8], i: usize) -> u8
     ensures { TellsOctetOrZero run.now i result }
 {
-    if i < run.len() {
-        return run[i];
-    }
-    0
+    run.get(i).copied().unwrap_or(0)
 }
 
 // Eight bits of a run from a place on, as an octet; zeros behind the end.
@@ -111,21 +88,10 @@ pub fn octet_at(run: &[u8], at: usize) -> u8
     (((high * 256 + low) >> (at % 8)) % 256) as u8
 }
 
-// The smaller of two numbers.
-fn least(a: usize, b: usize) -> usize
-    ensures { result ≡ min a b }
-{
-    if a < b { a } else { b }
-}
-
 // Copies the first octets, count of them or as many as there are and fit.
 pub fn copy_front(from: &[u8], count: usize, to: &mut [u8])
     ensures { CopiesFront from.now count to.old to.new }
 {
-    let n = least(count, least(from.len(), to.len()));
-    let mut j = 0;
-    while j < n {
-        to[j] = from[j];
-        j += 1;
-    }
+    let n = count.min(from.len()).min(to.len());
+    to[..n].copy_from_slice(&from[..n]);
 }

@@ -7,65 +7,54 @@ mod stations;
 
 use std::io;
 use std::io::{ErrorKind, Read, Write};
-use wire::{Reply, U8, U16};
+use wire::{Reply, Request};
 
 // The octets of the longest request.
 const REQUEST_LIMIT: usize = 65535;
 
-// The first of the operations that are reached only through others.
-const FIRST_INNER: u8 = 32;
+// The reply to what is no request.
+const NO_REQUEST: u8 = 255;
 
-// Has the request's operation carried out. An empty request counts as one for operation 0, which is none.
-fn carry_out(request: &[u8]) -> Reply {
-    let operation = wire::octet(request, 0);
-    if operation == 6 {
-        return stations::station_step(request);
+// Has the request's operation carried out.
+fn carry_out(octets: &[u8]) -> Option<Reply> {
+    let mut request = Request::new(octets);
+    match request.u8()? {
+        6 => stations::station_step(request),
+        operation @ 0..32 => trials::carry_out(operation, request),
+        operation => inner_trials::carry_out(operation, request),
     }
-    if operation < FIRST_INNER {
-        return trials::carry_out(request);
-    }
-    inner_trials::carry_out(request)
-}
-
-// The reply to a request: FF to what is none.
-fn answer(request: &[u8]) -> Reply {
-    let reply = carry_out(request);
-    if reply.length == 0 {
-        return wire::put_number(reply, U8, 255);
-    }
-    reply
 }
 
 // Writes a reply behind its length.
 fn write_reply(output: &mut impl Write, reply: Reply) -> io::Result<()> {
-    let head = wire::put_number(wire::no_reply(), U16, reply.length as u64);
-    output.write_all(wire::first(&head.octets, head.length))?;
-    output.write_all(wire::first(&reply.octets, reply.length))
+    let octets = reply.octets();
+    output.write_all(&octets.len().to_le_bytes()[..2])?;
+    output.write_all(octets)
 }
 
 // Fills the octets from the input. False where the input ends before.
 fn fill(input: &mut impl Read, octets: &mut [u8]) -> io::Result<bool> {
     match input.read_exact(octets) {
         Ok(()) => Ok(true),
-        Err(error) => match error.kind() {
-            ErrorKind::UnexpectedEof => Ok(false),
-            _ => Err(error),
-        },
+        Err(error) if error.kind() == ErrorKind::UnexpectedEof => Ok(false),
+        Err(error) => Err(error),
     }
 }
 
 // Reads a request and writes its reply. False where the input ends before the request does.
 fn serve_one(input: &mut impl Read, output: &mut impl Write) -> io::Result<bool> {
-    let mut head = [0u8; 2];
+    let mut head = [0; 2];
     if !fill(input, &mut head)? {
         return Ok(false);
     }
-    let length = wire::read_number(&head, 0, U16).value as usize;
-    let mut request = [0u8; REQUEST_LIMIT];
-    if !fill(input, wire::first_mut(&mut request, length))? {
+    let length = u16::from_le_bytes(head) as usize;
+    let mut octets = [0; REQUEST_LIMIT];
+    let request = &mut octets[..length];
+    if !fill(input, request)? {
         return Ok(false);
     }
-    write_reply(output, answer(wire::first(&request, length)))?;
+    let reply = carry_out(request).unwrap_or_else(|| Reply::new(NO_REQUEST));
+    write_reply(output, reply)?;
     Ok(true)
 }
 

@@ -1,230 +1,146 @@
 // Operation 6: one step of the station.
-use station::{Event, Sends, Stepped, Told};
+use station::{Event, Stepped};
 use table::{OnCrD, OnCrE, OnMrD, OnMrE, Phase, Settings, Signal, Start, State};
-use wire::{RUN_LIMIT, Reply, Run, U8, U16, U64};
-
-// Where the pieces of a request start: phase u8, entry u64, wish u8, ACK asked u8, seven settings of one octet each, the own table.
-const PHASE_AT: usize = 1;
-
-const ENTRY_AT: usize = 2;
-
-const WISH_AT: usize = 10;
-
-const ACK_AT: usize = 11;
-
-const SETTINGS_AT: usize = 12;
-
-const OWN_AT: usize = 19;
+use wire::{RUN_LIMIT, Reply, Request};
 
 // The most octets of the wishes.
 const WISHES_LIMIT: usize = 2048;
 
-// The pieces of a request from the own table on.
-#[derive(Clone, Copy)]
-struct Pieces {
-    own: Run,
-    wishes: Run,
-    event: u64,
-    what: u64,
-    field: Run,
-    time: u64,
-    out: Run,
-    store: Run,
+// The state of a request: phase u8, entry u64, wish u8, ACK asked u8.
+fn state_in(request: &mut Request<'_>) -> Option<State> {
+    let number = request.u8()?;
+    let entry = request.u64()?;
+    let wish = request.u8()?;
+    let ack = request.flag()?;
+    let phase = phase_of(number, entry, wish, ack)?;
+    Some(State { phase })
 }
 
-// A number of the event's `what` behind the last for each event.
-fn what_limit(event: u64) -> u64 {
-    match event {
-        0 => 7,
-        1 => 4,
-        2 => 1,
-        3 => 1,
-        4 => 1,
-        5 => 1,
-        _ => 0,
+fn phase_of(number: u8, entry: u64, wish: u8, ack: bool) -> Option<Phase> {
+    match number {
+        0 => Some(Phase::Initial(entry)),
+        1 => Some(Phase::AskedE(entry)),
+        2 => Some(Phase::AskedD(entry)),
+        3 => Some(Phase::ListsE(entry)),
+        4 => Some(Phase::ListsD(entry)),
+        5 => Some(Phase::Counter(entry)),
+        6 => Some(Phase::Listed(entry)),
+        7 => Some(Phase::Traded(entry)),
+        8 => Some(Phase::Pair(entry)),
+        9 => Some(Phase::Half(entry)),
+        10 => Some(Phase::Proposed(entry, wish, ack)),
+        11 => Some(Phase::Mode(entry, wish, ack)),
+        _ => None,
     }
 }
 
-// The phase, ACK asked and the settings are in their lists.
-fn is_listed(request: &[u8]) -> bool {
-    wire::octet(request, PHASE_AT) <= 11
-        && wire::octet(request, ACK_AT) <= 1
-        && wire::octet(request, SETTINGS_AT) <= 1
-        && wire::octet(request, SETTINGS_AT + 1) <= 1
-        && wire::octet(request, SETTINGS_AT + 2) <= 1
-        && wire::octet(request, SETTINGS_AT + 3) <= 2
-        && wire::octet(request, SETTINGS_AT + 4) <= 1
-        && wire::octet(request, SETTINGS_AT + 5) <= 1
-        && wire::octet(request, SETTINGS_AT + 6) <= 1
+// The settings of a request: seven of one octet each.
+fn settings_in(request: &mut Request<'_>) -> Option<Settings> {
+    Some(Settings {
+        v8: request.flag()?,
+        short_v8: request.flag()?,
+        ack: request.flag()?,
+        on_mr_e: on_mr_e_of(request.u8()?)?,
+        on_cr_d: on_cr_d_of(request.flag()?),
+        on_cr_e: on_cr_e_of(request.flag()?),
+        on_mr_d: on_mr_d_of(request.flag()?),
+    })
 }
 
-// The state of a request.
-fn state_at(request: &[u8]) -> State {
-    let entry = wire::read_number(request, ENTRY_AT, U64).value;
-    let wish = wire::octet(request, WISH_AT);
-    let ack = wire::octet(request, ACK_AT) == 1;
-    let phase = match wire::octet(request, PHASE_AT) {
-        0 => Phase::Initial(entry),
-        1 => Phase::AskedE(entry),
-        2 => Phase::AskedD(entry),
-        3 => Phase::ListsE(entry),
-        4 => Phase::ListsD(entry),
-        5 => Phase::Counter(entry),
-        6 => Phase::Listed(entry),
-        7 => Phase::Traded(entry),
-        8 => Phase::Pair(entry),
-        9 => Phase::Half(entry),
-        10 => Phase::Proposed(entry, wish, ack),
-        _ => Phase::Mode(entry, wish, ack),
-    };
-    State { phase }
-}
-
-// The settings of a request.
-fn settings_at(request: &[u8]) -> Settings {
-    let on_mr_e = match wire::octet(request, SETTINGS_AT + 3) {
-        0 => OnMrE::Ms,
-        1 => OnMrE::MrD,
-        _ => OnMrE::CrD,
-    };
-    let on_cr_d = match wire::octet(request, SETTINGS_AT + 4) {
-        0 => OnCrD::Cl,
-        _ => OnCrD::Clr,
-    };
-    let on_cr_e = match wire::octet(request, SETTINGS_AT + 5) {
-        0 => OnCrE::AsOnCrD,
-        _ => OnCrE::CrD,
-    };
-    let on_mr_d = match wire::octet(request, SETTINGS_AT + 6) {
-        0 => OnMrD::Ms,
-        _ => OnMrD::CrD,
-    };
-    Settings {
-        v8: wire::octet(request, SETTINGS_AT) == 1,
-        short_v8: wire::octet(request, SETTINGS_AT + 1) == 1,
-        ack: wire::octet(request, SETTINGS_AT + 2) == 1,
-        on_mr_e,
-        on_cr_d,
-        on_cr_e,
-        on_mr_d,
+fn on_mr_e_of(number: u8) -> Option<OnMrE> {
+    match number {
+        0 => Some(OnMrE::Ms),
+        1 => Some(OnMrE::MrD),
+        2 => Some(OnMrE::CrD),
+        _ => None,
     }
 }
 
-fn start_of(what: u64) -> Start {
+fn on_cr_d_of(clr: bool) -> OnCrD {
+    if clr { OnCrD::Clr } else { OnCrD::Cl }
+}
+
+fn on_cr_e_of(cr_d: bool) -> OnCrE {
+    if cr_d { OnCrE::CrD } else { OnCrE::AsOnCrD }
+}
+
+fn on_mr_d_of(cr_d: bool) -> OnMrD {
+    if cr_d { OnMrD::CrD } else { OnMrD::Ms }
+}
+
+fn start_of(what: u8) -> Option<Start> {
     match what {
-        0 => Start::MrE,
-        1 => Start::MrD,
-        2 => Start::CrE,
-        3 => Start::CrD,
-        4 => Start::Ms,
-        5 => Start::Cl,
-        _ => Start::Clr,
+        0 => Some(Start::MrE),
+        1 => Some(Start::MrD),
+        2 => Some(Start::CrE),
+        3 => Some(Start::CrD),
+        4 => Some(Start::Ms),
+        5 => Some(Start::Cl),
+        6 => Some(Start::Clr),
+        _ => None,
     }
 }
 
-fn signal_of(what: u64) -> Signal {
+fn signal_of(what: u8) -> Option<Signal> {
     match what {
-        0 => Signal::MrE,
-        1 => Signal::MrD,
-        2 => Signal::CrE,
-        _ => Signal::CrD,
+        0 => Some(Signal::MrE),
+        1 => Some(Signal::MrD),
+        2 => Some(Signal::CrE),
+        3 => Some(Signal::CrD),
+        _ => None,
     }
 }
 
-fn event_of(event: u64, what: u64) -> Event {
-    match event {
-        0 => Event::Start(start_of(what)),
-        1 => Event::Signal(signal_of(what)),
-        2 => Event::Field,
-        3 => Event::InvalidFrame,
-        4 => Event::AnswerTone,
-        _ => Event::Reset,
-    }
-}
-
-fn pieces_of(request: &[u8]) -> Pieces {
-    let own = wire::read_run(request, OWN_AT, RUN_LIMIT);
-    let wishes = wire::read_run(request, own.end, WISHES_LIMIT);
-    let event = wire::read_number(request, wishes.end, U8);
-    let what = wire::read_number(request, event.end, U8);
-    let field = wire::read_run(request, what.end, RUN_LIMIT);
-    let time = wire::read_number(request, field.end, U64);
-    let out = wire::read_run(request, time.end, RUN_LIMIT);
-    Pieces {
-        own,
-        wishes,
-        event: event.value,
-        what: what.value,
-        field,
-        time: time.value,
-        out,
-        store: wire::read_run(request, out.end, RUN_LIMIT),
+// The event of a request: its number u8, and which start or signal it is u8, 0 for any other event.
+fn event_in(request: &mut Request<'_>) -> Option<Event> {
+    match (request.u8()?, request.u8()?) {
+        (0, what) => Some(Event::Start(start_of(what)?)),
+        (1, what) => Some(Event::Signal(signal_of(what)?)),
+        (2, 0) => Some(Event::Field),
+        (3, 0) => Some(Event::InvalidFrame),
+        (4, 0) => Some(Event::AnswerTone),
+        (5, 0) => Some(Event::Reset),
+        _ => None,
     }
 }
 
 // Request: state, settings, own table, wishes, event u8, what u8, field, time u64, out, store. Reply: no u8, the state, signal u8, the
 // lengths of the first and second field and of what was stored, u16 each, out, store.
-pub(crate) fn station_step(request: &[u8]) -> Reply {
-    let pieces = pieces_of(request);
-    let store = pieces.store;
-    if store.end != request.len()
-        || !is_listed(request)
-        || what_limit(pieces.event) <= pieces.what
-    {
-        return wire::no_reply();
-    }
-    reply_of_step(request, pieces)
-}
-
-fn reply_of_step(request: &[u8], pieces: Pieces) -> Reply {
-    let out = wire::octets_of(request, pieces.out);
-    let store = wire::octets_of(request, pieces.store);
-    let mut output = wire::lent(out);
-    let mut kept = wire::lent(store);
-    let stepped = station::step(
-        state_at(request),
-        settings_at(request),
-        wire::octets_of(request, pieces.own),
-        wire::octets_of(request, pieces.wishes),
-        event_of(pieces.event, pieces.what),
-        wire::octets_of(request, pieces.field),
-        pieces.time,
-        wire::first_mut(&mut output, out.len()),
-        wire::first_mut(&mut kept, store.len()),
-    );
-    let sent = wire::put_run(head_of_step(stepped), wire::first(&output, out.len()));
-    wire::put_run(sent, wire::first(&kept, store.len()))
+pub(crate) fn station_step(mut request: Request<'_>) -> Option<Reply> {
+    let state = state_in(&mut request)?;
+    let set = settings_in(&mut request)?;
+    let own = request.run(RUN_LIMIT)?;
+    let wishes = request.run(WISHES_LIMIT)?;
+    let event = event_in(&mut request)?;
+    let field = request.run(RUN_LIMIT)?;
+    let now = request.u64()?;
+    let mut out_room = [0; RUN_LIMIT];
+    let out = request.buffer(&mut out_room)?;
+    let mut store_room = [0; RUN_LIMIT];
+    let store = request.buffer(&mut store_room)?;
+    request.end()?;
+    let stepped = station::step(state, set, own, wishes, event, field, now, out, store);
+    let mut reply = head_of_step(stepped);
+    reply.put_run(out);
+    reply.put_run(store);
+    Some(reply)
 }
 
 // What a step answers, before the buffers.
 fn head_of_step(stepped: Stepped) -> Reply {
-    let told = stepped.told;
-    let signal = stepped.signal;
     let state = stepped.state;
-    let phase = state.phase;
-    let phased = put_phase(wire::reply_with(number_of(told)), phase);
-    let signalled = wire::put_number(phased, U8, number_of_sent(signal));
-    let lengths = wire::put_pair(signalled, stepped.first, stepped.second);
-    wire::put_number(lengths, U16, stepped.stored as u64)
+    let refusal = stepped.told.err();
+    let mut reply = Reply::new(refusal.map_or(0, |refusal| refusal as u8));
+    put_phase(&mut reply, state.phase);
+    reply.put_u8(stepped.signal.map_or(0, |signal| signal as u8 + 1));
+    reply.put_count(stepped.first);
+    reply.put_count(stepped.second);
+    reply.put_count(stepped.stored);
+    reply
 }
 
-// The rules' number.
-fn number_of(told: Told) -> u64 {
-    match told {
-        Told::Done => 0,
-        Told::BadLent => 1,
-        Told::BadOwn => 2,
-        Told::BadWishes => 3,
-        Told::Outside => 4,
-        Told::TimeBefore => 5,
-        Told::TimedOut => 6,
-        Told::UnknownType => 9,
-        Told::NotInTable => 10,
-        Told::NothingToPropose => 11,
-    }
-}
-
-fn number_of_signal(signal: Signal) -> u64 {
+// A signal that is sent, by the probe's own numbers: no rule has any. 0 stands for none.
+fn number_of_signal(signal: Signal) -> u8 {
     match signal {
         Signal::MrE => 1,
         Signal::MrD => 2,
@@ -233,20 +149,12 @@ fn number_of_signal(signal: Signal) -> u64 {
     }
 }
 
-// The signal to send, 0 for none.
-fn number_of_sent(sends: Sends) -> u64 {
-    match sends {
-        Sends::NoSignal => 0,
-        Sends::Signal(signal) => number_of_signal(signal),
-    }
-}
-
 // A phase: its number, entry u64, wish u8, ACK asked u8.
-fn put_phase(reply: Reply, phase: Phase) -> Reply {
-    let carried = table::carried_by(phase);
+fn put_phase(reply: &mut Reply, phase: Phase) {
+    let carried = phase.carried();
     let kind = carried.kind;
-    let named = wire::put_number(reply, U8, table::number_of(kind) as u64);
-    let entered = wire::put_number(named, U64, carried.entry);
-    let wished = wire::put_number(entered, U8, carried.wish as u64);
-    wire::put_number(wished, U8, carried.ack as u64)
+    reply.put_u8(kind.number());
+    reply.put_u64(carried.entry);
+    reply.put_u8(carried.wish);
+    reply.put_u8(carried.ack as u8);
 }

@@ -1,20 +1,20 @@
 -- What is heard of the far side: what its identification field says, what is stored of its standard field, the choice from its list, and
 -- what a list that was taken or an MS that was judged leads to.
 -- Assumes nothing.
-use Prim.Native.Nat.{ℕ, ◌<◌, ◌≤◌}
-use mathlib.Core.Bool.{true, false}
+use Prim.Native.Nat.{ℕ, ◌+◌, ◌<◌, ◌≤◌}
+use mathlib.Core.Bool.{Bool, true, false}
 use mathlib.Core.List.{List, [], ◌∷◌, ◌++◌}
 use mathlib.Core.Logic.{⊎_elim}
-use mathlib.Core.Path.{◌≡◌, sym, ap, ◌∙◌}
+use mathlib.Core.Path.{◌≡◌, refl, sym, ap, ◌∙◌}
 use native.Mathlib.Omega.{arith}
 use borrow.Author.Tests.{le-ltb}
 use lib.ListN.{length}
+use Rattle.std.specs.Prelude.{Option, Err, unwrap_or}
 use Rattle.octets.specs.Lay.{put}
 use Rattle.tree.specs.Codes.{field_base, field_codes}
-use Rattle.tree.specs.Form.{field_form}
+use Rattle.tree.specs.Form.{Fine, field_form}
 use Rattle.tree.specs.Fields.{is_in, codes_in, most_octets}
 use Rattle.tree.specs.declared.Field.TheVariants.{Identification, Standard}
-use Rattle.tree.specs.declared.Form.TheVariants.{Fine}
 use Rattle.tree.proofs.Forms.{form_in_lem}
 use Rattle.tree.proofs.Wide.{wide_short}
 use Rattle.message.specs.Kinds.{has_fields, type_of}
@@ -29,17 +29,21 @@ use Rattle.meaning.proofs.Reading.{tree_at, tree_codes_lem, tree_good}
 use Rattle.names.specs.declared.Keep.{Keep}
 use Rattle.names.specs.declared.Keep.TheVariants.{All, Named}
 use Rattle.strike.specs.Rewriting.{kept, rewritten, Rewrites}
+use Rattle.strike.proofs.FieldRewritten.{count_or_zero}
 use Rattle.choice.specs.Wishes.{wishes_of, standard_codes, good_wishes}
 use Rattle.choice.specs.Choosing.{heard, Choosing, choice, far_codes}
-use Rattle.choice.specs.Judging.{verdict}
+use Rattle.choice.specs.Judging.{verdict, nak_of}
+use Rattle.choice.specs.declared.ModeRefusal.{ModeRefusal}
+use Rattle.choice.specs.declared.ModeRefusal.TheVariants.{NotReady, NoFit}
 use Rattle.choice.proofs.Truths.{same_tests}
 use Rattle.choice.proofs.Chosen.{choice_struck}
-use Rattle.table.specs.declared.Phase.TheVariants.{Listed, Half, Mode}
-use Rattle.table.specs.declared.After.TheVariants.{ThenMs, ThenClMs, ThenCl, ThenHalf}
+use Rattle.table.specs.declared.Phase.TheVariants.{Initial, Listed, Half, Mode}
+use Rattle.table.specs.declared.After.TheVariants.{ThenCl, ThenHalf}
 use Rattle.table.specs.declared.Settings.{Settings}
 use Rattle.station.specs.Sending.{sent_list}
-use Rattle.station.specs.Acting.{sends, far_list, far_offer, asks_ack, stored_list, stored_mode, proposes, proposes_behind, takes, judges}
-use Rattle.station.specs.Inner.{Standing}
+use Rattle.station.specs.Acting.{sends, far_list, far_offer, asks_ack, stored_list, stored_mode, takes, judges}
+use Rattle.station.specs.Inner.{proposed, then_ms}
+use Rattle.station.specs.declared.lent.Message.{Message}
 use Rattle.station.specs.declared.FarOffer.{FarOffer}
 
 -- ---- what a message with fields says
@@ -72,11 +76,11 @@ module _ (m : List ℕ) (e : read_message m list_room ≡ accepted) (h : has_fie
   all_kept k room r = rw (le-ltb room most_octets r, form_in_lem m (standard_at m) few, standard_fine)
 
 -- so rewriting it into a store with room for a message stores what is kept of it
-pub stores_kept : {k : Keep} {m : List ℕ} {at n : ℕ} {store₀ store₁ : List ℕ} → Standing m at → most_octets ≤ length store₀ → Rewrites k Standard m at store₀ n store₁
-    → (n ≡ length (kept k Standard m at)) × (store₁ ≡ put (kept k Standard m at) store₀)
-stores_kept {k} {m} {at} {n} {store₀} s r w =
-    let e : rewritten k Standard m at (length store₀) ≡ kept k Standard m at = rw s.place (all_kept m s.fine s.fields k (length store₀) r) in
-    (w.count ∙ ap length e, w.output ∙ rw e)
+pub stores_kept : {k : Keep} (x : Message) {n : Option ℕ} {store₀ store₁ : List ℕ} → most_octets ≤ length store₀ → Rewrites k Standard x.field.now x.standard store₀ n store₁
+    → (unwrap_or n 0 ≡ length (kept k Standard x.field.now x.standard)) × (store₁ ≡ put (kept k Standard x.field.now x.standard) store₀)
+stores_kept {k} x {n} {store₀} r w =
+    let e : rewritten k Standard x.field.now x.standard (length store₀) ≡ kept k Standard x.field.now x.standard = rw x.place (all_kept x.field.now x.fine x.fields k (length store₀) r) in
+    (ap (λ (o : Option ℕ). unwrap_or o 0) w.count ∙ count_or_zero _ ∙ ap length e, w.output ∙ rw e)
 
 -- ---- the choice
 
@@ -87,25 +91,22 @@ choice_as_heard own m run h g = rw (wide_short Standard m (standard_at m) h) (sy
 
 -- ---- a list that was taken
 
-module _ (set : Settings) (own run m : List ℕ) (time : ℕ) {at : ℕ} (s : Standing m at) where
+module _ (set : Settings) (own run : List ℕ) (x : Message) (time : ℕ) where
   -- what each arm sends and stores
-  pub takes_cl : sends (sent_list 2 set own) [] (kept Named Standard m at) (Listed time) ≡ takes ThenCl set own run m time
+  pub takes_cl : sends (sent_list 2 set own) [] (kept Named Standard x.field.now x.standard) (Listed time) ≡ takes ThenCl set own run x.field.now time
   unfolding stored_list
-  takes_cl = rw s.place
+  takes_cl = rw x.place
 
-  pub takes_half : sends [] [] (kept Named Standard m at) (Half time) ≡ takes ThenHalf set own run m time
+  pub takes_half : sends [] [] (kept Named Standard x.field.now x.standard) (Half time) ≡ takes ThenHalf set own run x.field.now time
   unfolding stored_list
-  takes_half = rw s.place
+  takes_half = rw x.place
 
   -- the choice from it, alone or behind a CL
-  module _ {found : Choosing} {far : FarOffer} (g : good_wishes run ≡ true) (e : found ≡ choice (standard_codes own) (far_codes m at) run) (o : far ≡ far_offer m) where
-    pub takes_ms : proposes found set far run (kept Named Standard m at) time ≡ takes ThenMs set own run m time
-    unfolding stored_list
-    takes_ms = rw (e, o, s.place, choice_as_heard (standard_codes own) m run (few m s.fine s.fields) g)
-
-    pub takes_cl_ms : proposes_behind (sent_list 2 set own) found set far run (kept Named Standard m at) time ≡ takes ThenClMs set own run m time
-    unfolding stored_list
-    takes_cl_ms = rw (e, o, s.place, choice_as_heard (standard_codes own) m run (few m s.fine s.fields) g)
+  pub takes_common : (afterCl : Bool) {found : Choosing} {far : FarOffer} → good_wishes run ≡ true → found ≡ choice (standard_codes own) (far_codes x.field.now x.standard) run → far ≡ far_offer x.field.now
+      → proposed afterCl found set far own run (kept Named Standard x.field.now x.standard) time ≡ takes (then_ms afterCl) set own run x.field.now time
+  unfolding stored_list
+  takes_common true g e o = rw (e, o, x.place, choice_as_heard (standard_codes own) x.field.now run (few x.field.now x.fine x.fields) g)
+  takes_common false g e o = rw (e, o, x.place, choice_as_heard (standard_codes own) x.field.now run (few x.field.now x.fine x.fields) g)
 
 -- ---- an MS that was judged
 
@@ -115,11 +116,17 @@ pub verdict_there : (m run : List ℕ) {at : ℕ} {v x : ℕ} → at ≡ standar
 verdict_there m run p e q = rw (sym p, sym e) q
 
 -- accepted, it gives ACK(1) if it asks for that, else nothing
-module _ (m : List ℕ) (time : ℕ) {at : ℕ} (s : Standing m at) where
-  pub accepts_asked : asks_ack m ≡ true → sends (36 ∷ []) [] (kept All Standard m at) (Mode time 0 true) ≡ judges 0 m time
+module _ (x : Message) (time : ℕ) where
+  pub accepts_asked : asks_ack x.field.now ≡ true → sends (36 ∷ []) [] (kept All Standard x.field.now x.standard) (Mode time 0 true) ≡ judges 0 x.field.now time
   unfolding stored_mode message_octets
-  accepts_asked a = rw (a, s.place)
+  accepts_asked a = rw (a, x.place)
 
-  pub accepts_unasked : asks_ack m ≡ false → sends [] [] (kept All Standard m at) (Mode time 0 false) ≡ judges 0 m time
+  pub accepts_unasked : asks_ack x.field.now ≡ false → sends [] [] (kept All Standard x.field.now x.standard) (Mode time 0 false) ≡ judges 0 x.field.now time
   unfolding stored_mode
-  accepts_unasked a = rw (a, s.place)
+  accepts_unasked a = rw (a, x.place)
+
+-- refused, it gives the NAK
+pub refused_judges : (x : ModeRefusal) (m : List ℕ) (time : ℕ) → sends ((32 + (7 + nak_of (Err x))) ∷ []) [] [] (Initial time) ≡ judges (nak_of (Err x)) m time
+unfolding message_octets
+refused_judges NotReady m time = refl
+refused_judges NoFit m time = refl

@@ -1,15 +1,16 @@
 -- What is sent, octet for octet: octet 1, the two octets of I, and the standard field as it stands; and how it is laid into the output.
 -- Assumes nothing.
 use Prim.Native.Nat.{ℕ, ◌+◌, ◌*◌, ◌-◌, ◌≤◌, ◌<◌}
-use mathlib.Core.Bool.{Bool, true, false, not}
+use mathlib.Core.Bool.{Bool, true, false}
 use mathlib.Core.List.{List, [], ◌∷◌, ◌++◌, append-nil}
 use mathlib.Core.Path.{◌≡◌, refl, sym, ap, ◌∙◌}
 use native.Mathlib.Omega.{arith}
 use mir.Val.{bool_byte}
+use Rattle.std.specs.Prelude.{Option, Some, None}
 use borrow.Author.Tests.{lt-ltb, le-ltb}
 use borrow.Rule.Slice.PartMut.{put_mid}
 use lib.ListN.{length, set, take, drop, length-take, length-drop}
-use lib.Seq.{take_all, get_or-take, get_or-drop}
+use lib.Seq.{take_all}
 use Rattle.octets.specs.Bits.{num, AreOctets}
 use Rattle.octets.specs.Lay.{put, over}
 use Rattle.octets.proofs.Laying.{over_fits, length_put}
@@ -21,7 +22,6 @@ use Rattle.tree.proofs.Ascending.{field_ascending}
 use Rattle.tree.proofs.Forms.{form_in_lem}
 use Rattle.message.proofs.Room.{laid_behind}
 use Rattle.meaning.specs.Written.{block_from, run, from, positions, pars_written, rest_written, written}
-use Rattle.octets.specs.Places.{both}
 use Rattle.meaning.specs.Writing.{message_octets}
 use Rattle.good.specs.Good.{good_field}
 use Rattle.strike.specs.Rewriting.{kept, rewritten}
@@ -30,28 +30,19 @@ use Rattle.strike.proofs.Goodness.{good_stays, standard_stay}
 use Rattle.strike.proofs.Bounds.{good_short}
 use Rattle.choice.specs.Wishes.{most_wishes, standard_codes, good_wishes}
 use Rattle.choice.specs.Choosing.{Far, choice, choice_told}
-use Rattle.choice.specs.declared.Choice.{Choice}
-use Rattle.choice.specs.declared.Choice.TheVariants.{Chosen, NoChoice}
+use Rattle.choice.specs.declared.Pick.{Pick}
 use Rattle.choice.proofs.Chosen.{chosen_first, first_member}
 use Rattle.choice.proofs.Tabled.{good_fields}
 use Rattle.octets.proofs.Laws.{both_true}
-use Rattle.table.specs.declared.Settings.{Settings}
 use Rattle.station.specs.declared.Offer.{Offer}
-use Rattle.station.specs.declared.FarOffer.{FarOffer}
-use Rattle.station.specs.declared.sending.Outgoing.{Outgoing}
-use Rattle.station.specs.declared.sending.Outgoing.TheVariants as outgoing
-use Rattle.station.specs.Sending.{code_if, offer_codes, sent_field, sent_ack, sent_nak, mode_offer}
-use Rattle.station.specs.Inner.{Lies, Few, octets_of, CanPut}
+use Rattle.station.specs.Sending.{code_if, offer_codes, sent_field, sent_ack, sent_nak}
+use Rattle.station.specs.Inner.{Lies}
 
 -- ---- a truth value as an octet
 
 pub bit_octet : (b : Bool) → bool_byte b ≡ num b
 bit_octet true = refl
 bit_octet false = refl
-
-pub bit_small : (b : Bool) → bool_byte b ≤ 1
-bit_small true = omega arith
-bit_small false = omega arith
 
 -- ---- how it is laid into the output
 
@@ -156,63 +147,12 @@ pub nak_octet : (k : ℕ) → sent_nak k ≡ (0x27 + k) ∷ []
 unfolding message_octets
 nak_octet k = let e : 32 + (7 + k) ≡ 39 + k = omega arith in rw (le-ltb (7 + k) 4 (omega arith), e)
 
--- ---- what an MS offers
-
--- `&&`, as it comes from where its first part is true and from where it is false
-pub anded : (b x y : Bool) → x ≡ true → b ≡ y → b ≡ both x y
-anded b x y e f = rw e f
-
-pub cut_short : (b x y : Bool) → x ≡ false → b ≡ x → b ≡ both x y
-cut_short b x y e f = rw (f, e)
-
-both_both : (a b c : Bool) → both (both a b) c ≡ both a (both b c)
-both_both true b c = refl
-both_both false b c = refl
-
-pub mode_offered : (set : Settings) (far : FarOffer) (eight short some : Bool) → short ≡ both set.short_v8 far.short_v8 → some ≡ both (not short) set.v8
-    → eight ≡ both some far.v8 → ◌≡◌ {A = Offer} (record { v8 = eight; short_v8 = short; ack = set.ack }) (mode_offer set far)
-mode_offered set far eight short some s t e = rw (e, t, both_both (not short) set.v8 far.v8, s)
-
 -- ---- the MS of a choice
 
 -- a choice from good wishes lies in them and is good
-pub choice_lies : (own : List ℕ) (far : Far) (wishes : List ℕ) (r : Choice) → good_wishes wishes ≡ true → choice_told r ≡ choice own far wishes → Lies wishes (choice_told r)
-choice_lies own far wishes (Chosen p) g e =
+pub choice_lies : (own : List ℕ) (far : Far) (wishes : List ℕ) (r : Option Pick) → good_wishes wishes ≡ true → choice_told r ≡ choice own far wishes → Lies wishes (choice_told r)
+choice_lies own far wishes (Some p) g e =
     let f = chosen_first own far wishes p (sym e) in
     let w = good_fields most_wishes wishes g f.wish (first_member f) in
     (f.inside, rw f.field (both_true (good_field f.wish.field) _ w).0, f.few)
-choice_lies own far wishes NoChoice g e = tt
-
--- and then its number is small
-pub lies_few : (wishes : List ℕ) (r : Choice) → Lies wishes (choice_told r) → Few (choice_told r)
-lies_few wishes (Chosen p) h = h.2
-lies_few wishes NoChoice h = tt
-
--- from where it begins to where it ends it has its length
-part_size : (at n : ℕ) → at + n - at ≡ n
-part_size at n = omega arith
-
-pub part_good : (at n : ℕ) (wishes : List ℕ) → good_field (take n (drop at wishes)) ≡ true → good_field (take (at + n - at) (drop at wishes)) ≡ true
-part_good at n wishes h = rw (part_size at n) h
-
--- its octets are octets
-pub part_octets : (at n : ℕ) (wishes : List ℕ) → AreOctets wishes → at + n ≤ length wishes → AreOctets (take n (drop at wishes))
-part_octets at n wishes o h i k =
-    let s : length (take n (drop at wishes)) ≡ n = simp (length-take, length-drop) (omega arith) in
-    let l : i < n = omega arith in
-    rw (get_or-take, get_or-drop) (o (at + i) (omega arith))
-
--- the message put with that part is its MS
-pub mode_put : (offer : Offer) (at n : ℕ) (wishes d : List ℕ) {o : List ℕ} {r : ℕ}
-    → let m = sent_field 1 offer (standard_codes (take (at + n - at) (drop at wishes))) in (r ≡ length m) × (o ≡ put m d)
-    → let m = sent_field 1 offer (standard_codes (take n (drop at wishes))) in (r ≡ length m) × (o ≡ put m d)
-mode_put offer at n wishes d h = rw (part_size at n) at h
-
--- ---- what can be put is short
-
-pub outgoing_short : (m : Outgoing) (own wishes : List ℕ) → AreOctets own → AreOctets wishes → CanPut m own wishes → length (octets_of m own wishes) ≤ 31
-outgoing_short outgoing.Nothing own wishes o w h = omega arith
-outgoing_short (outgoing.Octet x) own wishes o w h = omega arith
-outgoing_short (outgoing.List kind offer) own wishes o w h = sent_short kind offer own h.0 o h.1
-outgoing_short (outgoing.Mode offer at n) own wishes o w h =
-    sent_short 1 offer (take n (drop at wishes)) (omega arith) (part_octets at n wishes w h.0) h.1
+choice_lies own far wishes None g e = tt

@@ -1,6 +1,6 @@
 -- To be believed: what each act of the table does (RULES, The station), that is what is told, sent and stored, and the next phase.
 -- Assumes nothing.
-use Rattle.std.specs.Prelude.{ℕ, zero, suc, Bool, List, []}
+use Rattle.std.specs.Prelude.{ℕ, zero, suc, Bool, Option, Some, None, List, []}
 use Rattle.octets.specs.Places.{pick}
 use Rattle.tree.specs.Codes.{code_of}
 use Rattle.tree.specs.Fields.{is_in, codes_in}
@@ -26,14 +26,12 @@ use Rattle.table.specs.declared.Signal.{Signal}
 use Rattle.table.specs.declared.Signal.TheVariants.{MrE, MrD, CrE, CrD}
 use Rattle.station.specs.Sending.{no_offer, sent_list, sent_mode, sent_ack, sent_nak}
 use Rattle.station.specs.declared.FarOffer.{FarOffer}
-use Rattle.station.specs.declared.Sends.{Sends}
-use Rattle.station.specs.declared.Sends.TheVariants as sent
 
 -- what a step does: the rules' number that it tells, 0 for success, the signal and the fields it sends, what it stores, and the next
 -- phase
 pub record Outcome : Type 0 where
   pub told : ℕ
-  pub signal : Sends
+  pub signal : Option Signal
   pub first : List ℕ
   pub second : List ℕ
   pub stored : List ℕ
@@ -41,13 +39,13 @@ pub record Outcome : Type 0 where
 
 -- nothing is sent or stored
 abbrev pub quiet : ℕ → Phase → Outcome
-quiet n p = record { told = n; signal = sent.NoSignal; first = []; second = []; stored = []; next = p }
+quiet n p = record { told = n; signal = None; first = []; second = []; stored = []; next = p }
 
 abbrev pub signals : Signal → Phase → Outcome
-signals s p = record { told = 0; signal = sent.Signal s; first = []; second = []; stored = []; next = p }
+signals s p = record { told = 0; signal = Some s; first = []; second = []; stored = []; next = p }
 
 abbrev pub sends : List ℕ → List ℕ → List ℕ → Phase → Outcome
-sends first second stored p = record { told = 0; signal = sent.NoSignal; first = first; second = second; stored = stored; next = p }
+sends first second stored p = record { told = 0; signal = None; first = first; second = second; stored = stored; next = p }
 
 -- ---- what the far side says
 
@@ -73,7 +71,7 @@ stored_mode field = kept All Standard field (standard_at field)
 
 -- a refusal behind which the phase is Initial: nothing is sent, and the store keeps the far list
 abbrev pub stays : ℕ → List ℕ → ℕ → Outcome
-stays n stored time = record { told = n; signal = sent.NoSignal; first = []; second = []; stored = stored; next = Initial time }
+stays n stored time = record { told = n; signal = None; first = []; second = []; stored = stored; next = Initial time }
 
 -- the choice is sent as MS, behind a CL or alone; without one, its refusal is told
 abbrev pub proposes : Choosing → Settings → FarOffer → List ℕ → List ℕ → ℕ → Outcome

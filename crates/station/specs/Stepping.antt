@@ -1,6 +1,6 @@
 -- To be believed: one step of the station (RULES, The station), the refusals in their order, then the table.
 -- Assumes nothing.
-use Rattle.std.specs.Prelude.{ℕ, ◌-◌, Bool, true, false, not, List, ◌++◌, ◌≡◌, ltb, length}
+use Rattle.std.specs.Prelude.{ℕ, ◌-◌, Bool, true, false, not, Option, Result, Ok, Err, List, ◌++◌, ◌≡◌, ltb, length}
 use Rattle.octets.specs.Lay.{put}
 use Rattle.octets.specs.Places.{pick}
 use Rattle.choice.specs.Wishes.{wishes_of, good_wishes}
@@ -9,6 +9,7 @@ use Rattle.table.specs.declared.Phase.{Phase}
 use Rattle.table.specs.declared.Phase.TheVariants.{Initial}
 use Rattle.table.specs.declared.Kind.{Kind}
 use Rattle.table.specs.declared.Settings.{Settings}
+use Rattle.table.specs.declared.Signal.{Signal}
 use Rattle.table.specs.declared.State.{State}
 use Rattle.table.specs.Phases.{kind_of, entry_of, ack_of, is_mode, is_over}
 use Rattle.table.specs.Rows.{act_of}
@@ -16,23 +17,22 @@ use Rattle.station.specs.Sorting.{Sort, known, strange, sort_of}
 use Rattle.station.specs.Acting.{Outcome, quiet, does}
 use Rattle.station.specs.declared.Event.{Event}
 use Rattle.station.specs.declared.Event.TheVariants as events
-use Rattle.station.specs.declared.Sends.{Sends}
-use Rattle.station.specs.declared.Told.{Told}
-use Rattle.station.specs.declared.Told.TheVariants.{Done, BadLent, BadOwn, BadWishes, Outside, TimeBefore, TimedOut, UnknownType, NotInTable, NothingToPropose}
+use Rattle.station.specs.declared.StepRefusal.{StepRefusal}
+use Rattle.station.specs.declared.StepRefusal.TheVariants.{BadLent, BadOwn, BadWishes, Outside, TimeBefore, TimedOut, UnknownType, NotInTable, NothingToPropose}
 use Rattle.station.specs.declared.Stepped.{Stepped}
 
 -- the rules' number of what a step tells, 0 for success
-abbrev pub told_no : Told → ℕ
-told_no Done = 0
-told_no BadLent = 1
-told_no BadOwn = 2
-told_no BadWishes = 3
-told_no Outside = 4
-told_no TimeBefore = 5
-told_no TimedOut = 6
-told_no UnknownType = 9
-told_no NotInTable = 10
-told_no NothingToPropose = 11
+abbrev pub told_no : Result (Unit {0}) StepRefusal → ℕ
+told_no (Ok x) = 0
+told_no (Err BadLent) = 1
+told_no (Err BadOwn) = 2
+told_no (Err BadWishes) = 3
+told_no (Err Outside) = 4
+told_no (Err TimeBefore) = 5
+told_no (Err TimedOut) = 6
+told_no (Err UnknownType) = 9
+told_no (Err NotInTable) = 10
+told_no (Err NothingToPropose) = 11
 
 abbrev pub output_room : ℕ
 output_room = 128
@@ -86,7 +86,7 @@ step_of p settings own wishes event field time out_size store_size =
 -- a reply: the rules' number, 0 for success, the signal, the lengths of the fields sent and of what was stored, and the next phase
 pub record Reply : Type 0 where
   pub no : ℕ
-  pub signal : Sends
+  pub signal : Option Signal
   pub first : ℕ
   pub second : ℕ
   pub stored : ℕ

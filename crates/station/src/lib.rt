@@ -1,21 +1,24 @@
 // The station (RULES, The station): one step for each event, from what is heard to the agreed mode. What is sent is written
 // into the output, the far side's standard field into the store; the state is a value that the caller keeps. A step goes through the
-// modules in this order: gate (reset, refusals 1 to 6, and 10 in Mode), hearing (what the event is to the table), acts (what the table says
-// is to be done: a plan), sending (the plan carried out: what is lent is written there alone).
+// modules in this order: gate (refusals 1 to 6, and 10 in Mode), hearing (what the event is to the table), acts (what the table says
+// is to be done: a plan), sending (the plan carried out: what is lent is written there alone). What they hand on is in lent.
 #![tactic(auto)]
 
 ghost use Rattle.std.specs.Prelude.{◌≡◌};
-ghost use Rattle.station.specs.Stepping.{told_no, step_told};
-ghost use Rattle.station.specs.Promises.{TellsBegun, Steps};
+ghost use Rattle.station.specs.Acting.{quiet};
+ghost use Rattle.station.specs.Stepping.{is_reset, told_no, step_told, step_reply};
+ghost use Rattle.station.specs.Promises.{TellsBegun, Steps, RefusesTables};
 
 use acts::decide;
-use gate::{Gate, checked_gate};
+use choice::TablesRefusal;
+use gate::{checked_gate, shut_in};
 use sending::carry_out;
 use table::{Phase, Settings, Signal, Start, State};
 
 mod acts;
 mod gate;
 mod hearing;
+mod lent;
 mod sending;
 
 // An event. The information field heard is lent beside it, and looked at only for Field.
@@ -29,34 +32,47 @@ pub enum Event {
     Reset,
 }
 
-// The signal to send.
-#[derive(Clone, Copy)]
-pub enum Sends {
-    NoSignal,
-    Signal(Signal),
+impl Event {
+    // Whether an event is the reset.
+    fn is_reset(self) -> bool
+        ensures { result ≡ is_reset self }
+    {
+        matches!(self, Event::Reset)
+    }
 }
 
-// Whether the event was acted on, or why not. BadLent: the output or the store is too small.
-#[derive(Clone, Copy)]
-pub enum Told {
-    Done,
-    BadLent,
-    BadOwn,
-    BadWishes,
-    Outside,
-    TimeBefore,
-    TimedOut,
-    UnknownType,
-    NotInTable,
-    NothingToPropose,
+// Why an event was not acted on. BadLent: the output or the store is too small.
+#[derive(Clone, Copy, Debug, PartialEq, Eq)]
+pub enum StepRefusal {
+    BadLent = 1,
+    BadOwn = 2,
+    BadWishes = 3,
+    Outside = 4,
+    TimeBefore = 5,
+    TimedOut = 6,
+    UnknownType = 9,
+    NotInTable = 10,
+    NothingToPropose = 11,
+}
+
+impl From<TablesRefusal> for StepRefusal {
+    ghost from_gives = { RefusesTables };
+
+    fn from(refusal: TablesRefusal) -> StepRefusal {
+        match refusal {
+            TablesRefusal::BadOwn => StepRefusal::BadOwn,
+            TablesRefusal::BadWishes => StepRefusal::BadWishes,
+            TablesRefusal::Outside => StepRefusal::Outside,
+        }
+    }
 }
 
 // A step's answer: what it tells, the signal to send, the lengths of the first and second field sent and of what was stored, and
-// the next state.
+// the next state. A length of 0 says that there is none: so many octets at the front of the output and of the store are new.
 #[derive(Clone, Copy)]
 pub struct Stepped {
-    pub told: Told,
-    pub signal: Sends,
+    pub told: Result<(), StepRefusal>,
+    pub signal: Option<Signal>,
     pub first: usize,
     pub second: usize,
     pub stored: usize,
@@ -95,23 +111,16 @@ pub fn begin(time: u64) -> State
     }
 }
 
-// An answer by its parts.
-pub(crate) fn answer(
-    told: Told,
-    signal: Sends,
-    first: usize,
-    second: usize,
-    stored: usize,
-    phase: Phase,
-) -> Stepped
-    ensures { step_told result ≡ record { no = told_no told; signal = signal; first = first; second = second; stored = stored; next = phase } }
+// Nothing is sent or stored.
+fn tells(told: Result<(), StepRefusal>, phase: Phase) -> Stepped
+    ensures { step_told result ≡ step_reply (quiet (told_no told) phase) }
 {
     Stepped {
         told,
-        signal,
-        first,
-        second,
-        stored,
+        signal: None,
+        first: 0,
+        second: 0,
+        stored: 0,
         state: State { phase },
     }
 }
@@ -132,16 +141,22 @@ pub fn step(
     ensures { Steps state settings own.now wishes.now event field.now time out.old store.old result out.new store.new }
 {
     let phase = state.phase;
+    if event.is_reset() {
+        return tells(Ok(()), Phase::Initial(time));
+    }
     let call = Call {
         phase,
         settings,
         time,
     };
-    match checked_gate(event, call, own, wishes, out.len(), store.len()) {
-        Gate::Open => {
-            let plan = decide(event, call, own, wishes, field);
-            carry_out(plan, own, wishes, field, out, store)
+    match checked_gate(call, own, wishes, out.len(), store.len()) {
+        Ok(tables) => {
+            let plan = decide(event, call, tables, field);
+            carry_out(plan, out, store)
         }
-        Gate::Shut(told, next) => answer(told, Sends::NoSignal, 0, 0, 0, next),
+        Err(refusal) => {
+            let next = shut_in(refusal, phase, time);
+            tells(Err(refusal), next)
+        }
     }
 }

@@ -14,7 +14,7 @@ use Rattle.tree.specs.Form.{field_form}
 use Rattle.tree.specs.Fields.{base_of}
 use Rattle.tree.specs.declared.Field.{Field}
 use Rattle.tree.specs.declared.Field.TheVariants.{Identification, Standard}
-use Rattle.tree.specs.declared.Form.TheVariants.{Fine}
+use Rattle.tree.specs.Form.{Fine}
 use Rattle.meaning.specs.Written.{block_octets, marked, written}
 use Rattle.meaning.specs.Writing.{is_empty}
 use Rattle.meaning.proofs.Trees.{Sub, sub, Par, par, sub_places, tree_codes, subs_octets, lower_octets, par_octets, pars_octets, tree_octets, Rising}

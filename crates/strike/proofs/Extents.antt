@@ -7,7 +7,7 @@ use mathlib.Core.List.{List, [], ◌∷◌, ◌++◌}
 use mathlib.Core.Path.{◌≡◌, refl, sym, ap, ◌∙◌}
 use native.Mathlib.Nat.{add-mul-mod_self_right, mod-eq_of_lt, zero-div}
 use native.Mathlib.Omega.{arith}
-use borrow.Author.Tests.{eqb-true, eq-eqb, ne_eqb, lt-ltb, le-ltb}
+use borrow.Author.Tests.{eqb-true, eq-eqb, lt-ltb, le-ltb}
 use lib.Bits.{bit_and}
 use lib.Dec.{ltb, eqb}
 use lib.ListN.{length, get_or, drop, length-drop, drop_of_length-le}
@@ -16,6 +16,10 @@ use lib.Seq.{get_or-drop}
 use Rattle.octets.specs.Bits.{num}
 use Rattle.octets.specs.Places.{pick}
 use Rattle.tree.specs.Block.{set_bits, block_numbers, block_end, behind}
+use Rattle.tree.specs.Levels.{width_of, mark_of}
+use Rattle.tree.specs.declared.Level.{Level}
+use Rattle.tree.specs.declared.Level.TheVariants.{Top, Low}
+use Rattle.tree.proofs.Giving.{mark_power, width_most}
 use Rattle.tree.proofs.Lowest.{bits_none}
 use Rattle.meaning.specs.Minimal.{full_at_end, tight}
 use Rattle.meaning.specs.Writing.{is_empty}
@@ -25,10 +29,12 @@ use Rattle.tree.proofs.Numbering.{set_bits_over}
 use Rattle.octets.proofs.Laws.{drop_next}
 use Rattle.names.specs.Masks.{only}
 use Rattle.names.specs.Inner.{kept_place}
-use Rattle.names.specs.declared.Places.{Places}
+use Rattle.std.specs.Prelude.{Option, Some, None}
+use Rattle.std.specs.Option.{option_eq}
 use Rattle.names.proofs.Sieving.{only_append}
-use Rattle.strike.specs.Inner.{names_at, sieved, block_kept}
-use Rattle.strike.proofs.Sifting.{kept_octet, kept_below, kept_zero, kept_bits, no_bits, kept_running, names_on}
+use Rattle.strike.specs.Inner.{sieved, block_kept}
+use Rattle.strike.specs.declared.Sieve.{Sieve}
+use Rattle.strike.proofs.Sifting.{kept_octet, kept_below, kept_zero, kept_bits, no_bits, Sieves, sieve_keeps, sieve_next}
 
 -- ---- octets cut behind the last in which something is set
 
@@ -128,11 +134,11 @@ module _ (w : ℕ) where
 -- ---- the kept octets of a block
 
 -- of the block that the octets begin with; the positions of the first stand above p
-unfoldable pub kept_octets : ℕ → Places → ℕ → ℕ → List ℕ → List ℕ
+unfoldable pub kept_octets : ℕ → Option ℕ → ℕ → ℕ → List ℕ → List ℕ
 kept_octets w places m p [] = []
 kept_octets w places m p (o ∷ l) = kept_octet w places p o ∷ pick (ltb o m) (kept_octets w places m (p + w) l) []
 
-module _ (w : ℕ) (places : Places) where
+module _ (w : ℕ) (places : Option ℕ) where
   octets_small : (p : ℕ) (l : List ℕ) → Small (2 ^ w) (kept_octets w places (2 ^ w) p l)
   unfolding kept_octets
   octets_small p [] = none
@@ -255,7 +261,7 @@ trim_last m (suc n) (x ∷ xs) h = go (all_zero xs) h (trim_last m n xs)
     go false h r = r (omega arith)
 
 -- which the kept octets are
-octets_at : (w : ℕ) (places : Places) (m p i : ℕ) (l : List ℕ) → i ≤ length (kept_octets w places m p l) - 1
+octets_at : (w : ℕ) (places : Option ℕ) (m p i : ℕ) (l : List ℕ) → i ≤ length (kept_octets w places m p l) - 1
     → get_or (kept_octets w places m p l) i 0 ≡ kept_octet w places (p + w * i) (get_or l i 0)
 unfolding kept_octets
 octets_at w places m p i [] h = sym (kept_zero w places (p + w * i))
@@ -273,17 +279,17 @@ octets_at w places m p (suc i) (o ∷ l) h = go (ltb o m) h (octets_at w places 
 
 -- ---- the block that the octets begin with
 
-octets_reach : (w : ℕ) (places : Places) (m : ℕ) (l : List ℕ) → length (trim m (kept_octets w places m 0 l)) ≤ length l + 1
+octets_reach : (w : ℕ) (places : Option ℕ) (m : ℕ) (l : List ℕ) → length (trim m (kept_octets w places m 0 l)) ≤ length l + 1
 octets_reach w places m l = omega (arith, trim_reach m (kept_octets w places m 0 l), octets_few w places m 0 l)
 
 -- the minimal block of what is kept
-written_kept : (w m : ℕ) (places : Places) (l : List ℕ) → m ≡ 2 ^ w → 0 < w
+written_kept : (w m : ℕ) (places : Option ℕ) (l : List ℕ) → m ≡ 2 ^ w → 0 < w
     → block_octets w m (only (kept_place places) (block_numbers w m 0 l)) ≡ trim m (kept_octets w places m 0 l)
 written_kept w m places l mark wide =
     rw (mark, ← (octets_numbers w places 0 l)) (trim_written w (kept_octets w places (2 ^ w) 0 l) wide (octets_small w places 0 l))
 
 -- nothing is kept exactly if all kept octets are 0
-empty_kept : (w m : ℕ) (places : Places) (l : List ℕ) → m ≡ 2 ^ w → is_empty (only (kept_place places) (block_numbers w m 0 l)) ≡ all_zero (kept_octets w places m 0 l)
+empty_kept : (w m : ℕ) (places : Option ℕ) (l : List ℕ) → m ≡ 2 ^ w → is_empty (only (kept_place places) (block_numbers w m 0 l)) ≡ all_zero (kept_octets w places m 0 l)
 empty_kept w m places l mark = rw (mark, ← (octets_numbers w places 0 l)) (empty_numbers w 0 _ (octets_small w places 0 l))
 
 -- a test that no number passes
@@ -293,7 +299,7 @@ only_none f [] h = refl
 only_none f (x ∷ l) h = rw (h x) (only_none f l h)
 
 -- of one octet that is left the first says it
-first_kept_lem : (w m : ℕ) (places : Places) (l : List ℕ) → length (trim m (kept_octets w places m 0 l)) ≤ 1 → eqb (kept_octet w places 0 (get_or l 0 0)) 0 ≡ all_zero (kept_octets w places m 0 l)
+first_kept_lem : (w m : ℕ) (places : Option ℕ) (l : List ℕ) → length (trim m (kept_octets w places m 0 l)) ≤ 1 → eqb (kept_octet w places 0 (get_or l 0 0)) 0 ≡ all_zero (kept_octets w places m 0 l)
 unfolding kept_octets all_zero trim
 first_kept_lem w m places [] h = eq-eqb _ 0 (kept_zero w places 0)
 first_kept_lem w m places (o ∷ l) h = go (eqb (kept_octet w places 0 o) 0) (pick (ltb o m) (kept_octets w places m (0 + w) l) []) h
@@ -308,6 +314,11 @@ first_kept_lem w m places (o ∷ l) h = go (eqb (kept_octet w places 0 o) 0) (pi
 
 -- ---- the block at a place
 
+-- an octet is always left
+pub kept_any : (places : Option ℕ) (s : List ℕ) (e : ℕ) → 0 < length (block_kept 7 128 places s e)
+kept_any places s e =
+    rw (written_kept 7 128 places (drop e s) refl (omega arith)) (trim_some 128 (kept_octets 7 places 128 0 (drop e s)))
+
 -- its delimiter, its width, and octets as few as a message has
 pub record Framed (w m : ℕ) (s : List ℕ) : Type 0 where
   pub mark : m ≡ 2 ^ w
@@ -315,7 +326,19 @@ pub record Framed (w m : ℕ) (s : List ℕ) : Type 0 where
   pub narrow : w ≤ 7
   pub short : length s ≤ 64
 
-module _ {w m : ℕ} {s : List ℕ} (f : Framed w m s) (places : Places) (e : ℕ) where
+width_some : (v : Level) → 0 < width_of v
+width_some Top = omega arith
+width_some Low = omega arith
+
+nowhere : (places : Option ℕ) → true ≡ option_eq eqb places (Some 0) → (q : ℕ) → kept_place places q ≡ false
+nowhere None z q = absurd (cc)
+nowhere (Some bits) z q = rw (eqb-true bits 0 (sym z), zero-div (2 ^ (q - 1)))
+
+-- so it is of either level
+pub framed : (v : Level) (s : List ℕ) → length s ≤ 64 → Framed (width_of v) (mark_of v) s
+framed v s h = record { mark = mark_power v; wide = omega (arith, width_some v); narrow = width_most v; short = h }
+
+module _ {w m : ℕ} {s : List ℕ} (f : Framed w m s) (places : Option ℕ) (e : ℕ) where
   kept_written : block_kept w m places s e ≡ trim m (kept_octets w places m 0 (drop e s))
   kept_written = written_kept w m places (drop e s) f.mark f.wide
 
@@ -333,12 +356,8 @@ module _ {w m : ℕ} {s : List ℕ} (f : Framed w m s) (places : Places) (e : �
       rw (k, ← first) (first_kept_lem w m places (drop e s) (omega (arith, ap length kept_written)) ∙ sym (empty_kept w m places (drop e s) f.mark))
 
   -- and where no position is kept, nothing is
-  pub keeps_nothing : pick places.all false (eqb places.bits 0) ≡ true → true ≡ is_empty (sieved w m places s e)
-  keeps_nothing h = sym (ap is_empty (only_none (kept_place places) (block_numbers w m 0 (drop e s)) (go places.all refl h)))
-    where
-      go : (t : Bool) → places.all ≡ t → pick t false (eqb places.bits 0) ≡ true → (q : ℕ) → kept_place places q ≡ false
-      go true a z q = absurd (omega (arith, ap num z))
-      go false a z q = rw (a, eqb-true places.bits 0 z, zero-div (2 ^ (q - 1)))
+  pub keeps_nothing : true ≡ option_eq eqb places (Some 0) → true ≡ is_empty (sieved w m places s e)
+  keeps_nothing h = sym (ap is_empty (only_none (kept_place places) (block_numbers w m 0 (drop e s)) (nowhere places h)))
 
   -- few octets are left
   pub kept_few : (0 < length (block_kept w m places s e)) × (length (block_kept w m places s e) ≤ 65)
@@ -367,77 +386,78 @@ module _ {w m : ℕ} {s : List ℕ} (f : Framed w m s) (places : Places) (e : �
   kept_last i r h k =
       rw kept_written (trim_last m i _ (omega (arith, ap length kept_written))) ∙ ap (λ (n : ℕ). n + m) (octet_there i (omega arith) ∙ sym k)
 
+-- by what a sieve keeps of the first octet
+pub keeps_first : {v : Level} {places : Option ℕ} {sieve : Sieve} (s : List ℕ) → length s ≤ 64 → (e d r : ℕ) → length (block_kept (width_of v) (mark_of v) places s e) ≤ 1 → Sieves v places 0 sieve
+    → d ≡ get_or s e 0 → r ≡ bit_and (d % mark_of sieve.level) (sieve.names % mark_of sieve.level) → eqb r 0 ≡ is_empty (sieved (width_of v) (mark_of v) places s e)
+keeps_first {v} {places} s short e d r one h k n =
+    keeps_one (framed v s short) places e r one (n ∙ sieve_keeps h d ∙ ap (kept_octet (width_of v) places 0) k)
+
 -- ---- counting them
 
--- up to i, count octets are left if nothing more comes; the names are those of the positions above a number
-pub record Reaching (w m : ℕ) (places : Places) (s : List ℕ) (e count names i : ℕ) : Type 0 where
+-- up to i, count octets are left if nothing more comes; the sieve stands at the octet there
+pub record Reaching (v : Level) (places : Option ℕ) (s : List ℕ) (e count : ℕ) (sieve : Sieve) (i : ℕ) : Type 0 where
   pub above : ℕ
   pub passed : e ≤ i
-  pub named : names ≡ names_at places above
-  pub octets : pick (all_zero (kept_octets w places m above (drop i s))) count (i - e + length (trim m (kept_octets w places m above (drop i s)))) ≡ length (block_kept w m places s e)
-  pub end : block_end m i (drop i s) ≡ behind m s e
+  pub sieves : Sieves v places above sieve
+  pub octets :
+      pick (all_zero (kept_octets (width_of v) places (mark_of v) above (drop i s))) count (i - e + length (trim (mark_of v) (kept_octets (width_of v) places (mark_of v) above (drop i s))))
+      ≡ length (block_kept (width_of v) (mark_of v) places s e)
+  pub end : block_end (mark_of v) i (drop i s) ≡ behind (mark_of v) s e
 
-pub reaching_none : {w m : ℕ} {s : List ℕ} → Framed w m s → (places : Places) (e names : ℕ) → names ≡ names_at places 0 → Reaching w m places s e 1 names e
-reaching_none {w} {m} {s} f places e names h =
+pub reaching_none : {v : Level} {places : Option ℕ} {s : List ℕ} {sieve : Sieve} → length s ≤ 64 → (e : ℕ) → Sieves v places 0 sieve → Reaching v places s e 1 sieve e
+reaching_none {v} {places} {s} short e h =
     record {
       above = 0;
       passed = omega arith;
-      named = h;
-      octets = let none : e - e ≡ 0 = omega arith in rw (none, kept_written f places e) (go (all_zero xs) refl);
+      sieves = h;
+      octets = let none : e - e ≡ 0 = omega arith in rw (none, kept_written (framed v s short) places e) (go (all_zero xs) refl);
       end = refl;
     }
   where
     xs : List ℕ
-    xs = kept_octets w places m 0 (drop e s)
+    xs = kept_octets (width_of v) places (mark_of v) 0 (drop e s)
 
-    go : (t : Bool) → all_zero xs ≡ t → pick t 1 (0 + length (trim m xs)) ≡ length (trim m xs)
-    go true z = sym (trim_zero m xs z)
+    go : (t : Bool) → all_zero xs ≡ t → pick t 1 (0 + length (trim (mark_of v) xs)) ≡ length (trim (mark_of v) xs)
+    go true z = sym (trim_zero (mark_of v) xs z)
     go false z = omega arith
 
--- an octet of which something is kept counts, with all before it, and one of which nothing is does not
-pub counts_some : (x r count count' j : ℕ) → r ≡ x → (r ≡ 0 → ⊥) → count' ≡ j → count' ≡ pick (eqb x 0) count j
-counts_some x r count count' j k h n = rw (← k, ne_eqb r 0 h) n
-
-pub counts_none : (x r count count' j : ℕ) → r ≡ x → r ≡ 0 → count' ≡ count → count' ≡ pick (eqb x 0) count j
-counts_none x r count count' j k h n = rw (← k, eq-eqb r 0 h) n
-
-module _ {w m : ℕ} {places : Places} {s : List ℕ} {e count names i : ℕ} (r : Reaching w m places s e count names i) where
+module _ {v : Level} {places : Option ℕ} {s : List ℕ} {e count : ℕ} {sieve : Sieve} {i : ℕ} (r : Reaching v places s e count sieve i) where
   -- the octets are at their end
-  pub reaching_end : length s ≤ i → (count ≡ length (block_kept w m places s e)) × (i ≡ behind m s e)
+  pub reaching_end : length s ≤ i → (count ≡ length (block_kept (width_of v) (mark_of v) places s e)) × (i ≡ behind (mark_of v) s e)
   unfolding kept_octets all_zero block_end
   reaching_end h = let none = drop_of_length-le s h in (rw none at r.octets, rw none at r.end)
 
-  module _ (f : Framed w m s) (inside : i < length s) {count' : ℕ} (counted : count' ≡ pick (eqb (bit_and (get_or s i 0 % m) (names % m)) 0) count (i + 1 - e)) where
+  module _ (inside : i < length s) {count' : ℕ} (counted : count' ≡ pick (eqb (bit_and (get_or s i 0 % mark_of sieve.level) (sieve.names % mark_of sieve.level)) 0) count (i + 1 - e)) where
     -- what is kept of the octet at hand
     abbrev here : ℕ
-    here = kept_octet w places r.above (get_or s i 0)
+    here = kept_octet (width_of v) places r.above (get_or s i 0)
 
     -- one octet, and those behind it
-    counted_on : (ys : List ℕ) → kept_octets w places m r.above (drop i s) ≡ here ∷ ys
-        → pick (all_zero ys) count' (i + 1 - e + length (trim m ys)) ≡ length (block_kept w m places s e)
+    counted_on : (ys : List ℕ) → kept_octets (width_of v) places (mark_of v) r.above (drop i s) ≡ here ∷ ys
+        → pick (all_zero ys) count' (i + 1 - e + length (trim (mark_of v) ys)) ≡ length (block_kept (width_of v) (mark_of v) places s e)
     counted_on ys k =
         let j : i + 1 - e ≡ i - e + 1 = omega (arith, r.passed) in
-        let kept = kept_running w m places r.above (get_or s i 0) names f.mark f.narrow r.named in
-        rw (counted, kept, j) (sym (trim_step m here count (i - e) ys) ∙ (rw k at r.octets))
+        rw (counted, sieve_keeps r.sieves (get_or s i 0), j) (sym (trim_step (mark_of v) here count (i - e) ys) ∙ (rw k at r.octets))
 
     -- the block goes on behind it
-    pub reaching_more : {step : ℕ} → step ≡ pick places.all 0 w → get_or s i 0 < m → Reaching w m places s e count' (names / 2 ^ step) (i + 1)
+    pub reaching_more : {next : Sieve} → (next.level ≡ sieve.level) × (next.names ≡ sieve.names / 2 ^ sieve.step) × (next.step ≡ sieve.step) → get_or s i 0 < mark_of v
+        → Reaching v places s e count' next (i + 1)
     unfolding kept_octets block_end
     reaching_more n h =
-        let goes = lt-ltb (get_or s i 0) m h in
+        let goes = lt-ltb (get_or s i 0) (mark_of v) h in
         let next = drop_next s i inside in
         record {
-          above = r.above + w;
+          above = r.above + width_of v;
           passed = omega (arith, r.passed);
-          named = names_on places r.above w names r.named n;
-          octets = counted_on (kept_octets w places m (r.above + w) (drop (i + 1) s)) (rw (next, goes));
+          sieves = sieve_next r.sieves n;
+          octets = counted_on (kept_octets (width_of v) places (mark_of v) (r.above + width_of v) (drop (i + 1) s)) (rw (next, goes));
           end = rw (next, goes) at r.end;
         }
 
     -- the block ends with it
-    pub reaching_last : m ≤ get_or s i 0 → (count' ≡ length (block_kept w m places s e)) × (i + 1 ≡ behind m s e)
+    pub reaching_last : mark_of v ≤ get_or s i 0 → (count' ≡ length (block_kept (width_of v) (mark_of v) places s e)) × (i + 1 ≡ behind (mark_of v) s e)
     unfolding kept_octets all_zero block_end
     reaching_last h =
-        let ends = le-ltb (get_or s i 0) m h in
+        let ends = le-ltb (get_or s i 0) (mark_of v) h in
         let next = drop_next s i inside in
         (counted_on [] (rw (next, ends)), rw (next, ends) at r.end)

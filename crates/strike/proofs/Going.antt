@@ -1,35 +1,29 @@
 -- A field rewritten piece by piece: octets put one run after the other; the octets of several positions, of those set in an octet and
 -- of those set in a block; and the pieces that a group, a Par(2) block and a field are made of.
 -- Assumes nothing.
-use Prim.Native.Nat.{ℕ, zero, suc, ◌+◌, ◌-◌, ◌*◌, ◌/◌, ◌%◌, ◌^◌, ◌≤◌, ◌<◌}
+use Prim.Native.Nat.{ℕ, zero, suc, ◌+◌, ◌-◌, ◌*◌, ◌%◌, ◌≤◌, ◌<◌}
 use mathlib.Core.Path.{◌≡◌, refl, sym, ap, ◌∙◌}
 use mathlib.Core.Bool.{true, false}
 use mathlib.Core.List.{List, [], ◌∷◌, ◌++◌, append_assoc, append-nil}
-use native.Mathlib.Nat.{mod-lt}
-use native.Mathlib.Numerals.{add-one}
 use native.Mathlib.Omega.{arith}
-use borrow.Author.Tests.{lt-ltb, le-ltb}
-use lib.Count.{count_trailing_zeros}
-use lib.Dec.{ltb}
-use lib.ListN.{length, get_or, set, drop_of_length-le, length-append}
-use lib.Pow.{pow_pos, shr_le}
-use lib.Seq.{sets, length-sets, drop-cons}
-use Rattle.octets.specs.Places.{pick}
-use Rattle.tree.specs.Block.{set_bits, block_numbers, numbers, behind, ended}
+use Rattle.tree.specs.Order.{Ascending, AllBelow}
+use Rattle.tree.proofs.Ascending.{numbers_between}
+use lib.ListN.{length, get_or, set, length-append}
+use lib.Seq.{sets, length-sets}
+use Rattle.tree.specs.Block.{numbers, behind, ended}
 use Rattle.tree.specs.Codes.{subs_behind, group_behind, pars_behind, rest_behind, field_behind, of_s}
 use Rattle.tree.specs.Form.{form_at, group_form, pars_form}
-use Rattle.tree.specs.declared.Form.TheVariants.{Fine}
+use Rattle.tree.specs.Form.{Fine}
 use Rattle.tree.proofs.Few.{few, group_few}
 use Rattle.tree.proofs.Forms.{and_parts}
 use Rattle.tree.proofs.Filling.{sets_append}
-use Rattle.tree.proofs.Lowest.{Lowest, lowest, bits_none, bits_below}
 use Rattle.meaning.specs.Written.{marked}
 use Rattle.meaning.specs.Writing.{is_empty}
 use Rattle.meaning.proofs.Blocks.{sets_marked, length_marked, block_some}
 use Rattle.names.specs.Masks.{npar_places, spar_places}
 use Rattle.names.specs.Inner.{kept_place}
 use Rattle.names.specs.declared.Keep.{Keep}
-use Rattle.names.specs.declared.Places.{Places}
+use Rattle.std.specs.Prelude.{Option}
 use Rattle.strike.specs.Inner.{sieved, block_kept, SubsFine, sub_kept, subs_kept, lower_kept, group_kept, whole_par, par_kept, pars_kept, rest_kept, field_kept, Puts}
 use Rattle.strike.specs.declared.Spot.{Spot}
 
@@ -105,7 +99,7 @@ pub record Stepped (one : ℕ → ℕ → List ℕ) (many : List ℕ → ℕ →
   pub both : (k e : ℕ) → fine e → fines k (past e) → fines (suc k) e
 
 -- NPar(3) blocks, and Par(2) blocks
-pub subs_stepped : (k : Keep) (c : ℕ) (p : Places) (l : List ℕ)
+pub subs_stepped : (k : Keep) (c : ℕ) (p : Option ℕ) (l : List ℕ)
     → Stepped (λ t e. sub_kept k c p t l e) (λ ts e. subs_kept k c p ts l e) (λ e. behind 64 l e) (λ n e. subs_behind n l e) (λ e. form_at 64 l e ≡ Fine) (λ n e. SubsFine n l e) (length l)
 unfolding subs_kept subs_behind SubsFine
 subs_stepped k c p l = record {
@@ -119,7 +113,7 @@ subs_stepped k c p l = record {
   both = λ n e h g. (h, g);
 }
 
-pub pars_stepped : (k : Keep) (b : ℕ) (p : Places) (l : List ℕ)
+pub pars_stepped : (k : Keep) (b : ℕ) (p : Option ℕ) (l : List ℕ)
     → Stepped (λ q e. par_kept k b p q l e) (λ qs e. pars_kept k b p qs l e) (λ e. group_behind l (behind 64 l e)) (λ n e. pars_behind n l e) (λ e. ParFine l e) (λ n e. pars_form n l e ≡ Fine) (length l)
 unfolding pars_kept pars_behind pars_form
 pars_stepped k b p l = record {
@@ -220,122 +214,52 @@ module _ {one : ℕ → ℕ → List ℕ} {many : List ℕ → ℕ → List ℕ}
         → Going many pasts fines size all start out₀ todo out₁ spot₁
     going_turn_one y = going_turn (q ∷ []) todo g (rw (← (many_one q spot.from), ← (pasts_one spot.from)) at y)
 
--- ---- the positions set in one octet
-
--- of the w positions of an octet above a number those up to p were looked at; the others, left, are the bits of a number
-pub record BitsGoing (many : List ℕ → ℕ → List ℕ) (pasts : ℕ → ℕ → ℕ) (fines : ℕ → ℕ → Type 0) (size w above octet : ℕ) (start : Spot) (out₀ out : List ℕ) (spot : Spot) (bits p : ℕ) : Type 0 where
-  pub left : ℕ
-  pub few : left ≤ w
-  pub fits : bits < 2 ^ left
-  pub reach : p + left ≡ above + w
-  pub going : Going many pasts fines size (set_bits w above octet) start out₀ (set_bits left p bits) out spot
-
-module _ {one : ℕ → ℕ → List ℕ} {many : List ℕ → ℕ → List ℕ} {past : ℕ → ℕ} {pasts : ℕ → ℕ → ℕ} {fine : ℕ → Type 0} {fines : ℕ → ℕ → Type 0} {size : ℕ} (x : Stepped one many past pasts fine fines size) {w above octet : ℕ} where
-  -- none was looked at yet
-  pub bits_start : (out : List ℕ) (start : Spot) → start.from ≤ size → fines (length (set_bits w above octet)) start.from → BitsGoing many pasts fines size w above octet start out out start (octet % 2 ^ w) above
-  bits_start out start h f = record {
-    left = w;
-    few = omega arith;
-    fits = mod-lt octet (pow_pos w);
-    reach = refl;
-    going = rw (bits_below w above octet) (going_none x (set_bits w above octet) out start h f);
-  }
-
-  module _ {out₀ out : List ℕ} {start spot : Spot} {bits p : ℕ} (y : BitsGoing many pasts fines size w above octet start out₀ out spot bits p) where
-    -- all were
-    pub bits_end : bits ≡ 0 → Puts (many (set_bits w above octet) start.from) (pasts (length (set_bits w above octet)) start.from) out₀ start.to out spot
-    bits_end z = let none : set_bits y.left p bits ≡ [] = rw z (bits_none y.left p) in going_end x (rw none at y.going)
-
-    -- the next one is, by the zeros below the lowest bit that is left
-    module _ (narrow : w ≤ 7) (z : bits ≡ 0 → ⊥) where
-      abbrev next : ℕ
-      next = p + (count_trailing_zeros 8 bits + 1)
-
-      low : Lowest y.left p bits (count_trailing_zeros 8 bits)
-      low = lowest 8 y.left p bits (omega (arith, y.few)) (omega arith) y.fits
-
-      pub bits_reach : (count_trailing_zeros 8 bits < 7) × (next ≤ above + w)
-      bits_reach = omega (arith, low.0, y.reach, y.few)
-
-      pub bits_less : bits / 2 ^ count_trailing_zeros 8 bits / 2 < bits
-      bits_less = omega (arith, shr_le bits (count_trailing_zeros 8 bits))
-
-      here : Going many pasts fines size (set_bits w above octet) start out₀ (next ∷ set_bits (y.left - (count_trailing_zeros 8 bits + 1)) next (bits / 2 ^ count_trailing_zeros 8 bits / 2)) out spot
-      here = rw low.1 at y.going
-
-      pub bits_room : start.to + length (many (set_bits w above octet) start.from) ≤ length out₀ → spot.to + length (one next spot.from) ≤ length out
-      bits_room = going_room_one x next (set_bits (y.left - (count_trailing_zeros 8 bits + 1)) next (bits / 2 ^ count_trailing_zeros 8 bits / 2)) here
-
-      pub bits_fine : fine spot.from
-      bits_fine = going_fine_one x next (set_bits (y.left - (count_trailing_zeros 8 bits + 1)) next (bits / 2 ^ count_trailing_zeros 8 bits / 2)) here
-
-      pub bits_turn : {out₁ : List ℕ} {spot₁ : Spot} → Puts (one next spot.from) (past spot.from) out spot.to out₁ spot₁
-          → BitsGoing many pasts fines size w above octet start out₀ out₁ spot₁ (bits / 2 ^ count_trailing_zeros 8 bits / 2) next
-      bits_turn r = record {
-        left = y.left - (count_trailing_zeros 8 bits + 1);
-        few = omega (arith, y.few);
-        fits = low.2;
-        reach = omega (arith, low.0, y.reach);
-        going = going_turn_one x next (set_bits (y.left - (count_trailing_zeros 8 bits + 1)) next (bits / 2 ^ count_trailing_zeros 8 bits / 2)) here r;
-      }
-
 -- ---- the positions set in a block
 
--- those of its octet at a place, and those behind it
-block_next : (w m p i : ℕ) (l : List ℕ) → i < length l
-    → numbers w m p l i ≡ set_bits w p (get_or l i 0) ++ pick (ltb (get_or l i 0) m) (numbers w m (p + w) l (i + 1)) []
-unfolding block_numbers
-block_next w m p i l h = rw (add-one i, drop-cons l i 0 h)
+-- some are still to come, in ascending order, and each can be counted in a code
+pub record Counting (many : List ℕ → ℕ → List ℕ) (pasts : ℕ → ℕ → ℕ) (fines : ℕ → ℕ → Type 0) (size : ℕ) (all : List ℕ) (start : Spot) (out₀ : List ℕ) (todo out : List ℕ) (spot : Spot) : Type 0 where
+  pub going : Going many pasts fines size all start out₀ todo out spot
+  pub above : ℕ
+  pub rising : Ascending above todo
+  pub low : AllBelow 512 todo
 
--- of the block at place e all octets before place i were looked at, and none was its last; those of the octet at i stand above p
-pub record OctetsGoing (many : List ℕ → ℕ → List ℕ) (pasts : ℕ → ℕ → ℕ) (fines : ℕ → ℕ → Type 0) (w m : ℕ) (l : List ℕ) (e : ℕ) (start : Spot) (out₀ out : List ℕ) (spot : Spot) (p i : ℕ) : Type 0 where
-  pub going : Going many pasts fines (length l) (numbers w m 0 l e) start out₀ (numbers w m p l i) out spot
-  pub reach : p ≤ w * i
+module _ {size : ℕ} {one : ℕ → ℕ → List ℕ} {many : List ℕ → ℕ → List ℕ} {past : ℕ → ℕ} {pasts : ℕ → ℕ → ℕ} {fine : ℕ → Type 0} {fines : ℕ → ℕ → Type 0} (x : Stepped one many past pasts fine fines size) where
+  -- none has come yet
+  pub counting_all : (w m : ℕ) (l : List ℕ) (e : ℕ) → w ≤ 7 → length l ≤ 64 → (out : List ℕ) (start : Spot) → start.from ≤ size → fines (length (numbers w m 0 l e)) start.from
+      → Counting many pasts fines size (numbers w m 0 l e) start out (numbers w m 0 l e) out start
+  counting_all w m l e narrow short out start h f =
+      let b = numbers_between w m 0 l e narrow short in
+      record { going = going_none x (numbers w m 0 l e) out start h f; above = 0; rising = b.0; low = b.1 }
 
-module _ {l : List ℕ} {one : ℕ → ℕ → List ℕ} {many : List ℕ → ℕ → List ℕ} {past : ℕ → ℕ} {pasts : ℕ → ℕ → ℕ} {fine : ℕ → Type 0} {fines : ℕ → ℕ → Type 0} (x : Stepped one many past pasts fine fines (length l)) {w m e : ℕ} where
-  -- none was looked at yet, and the octets are at their end
-  pub octets_none : (out : List ℕ) (start : Spot) → start.from ≤ length l → fines (length (numbers w m 0 l e)) start.from → OctetsGoing many pasts fines w m l e start out out start 0 e
-  octets_none out start h f = record { going = going_none x (numbers w m 0 l e) out start h f; reach = omega arith }
+  module _ {all todo out₀ out : List ℕ} {start spot : Spot} (y : Counting many pasts fines size all start out₀ todo out spot) where
+    -- none is left
+    pub counting_end : todo ≡ [] → Puts (many all start.from) (pasts (length all) start.from) out₀ start.to out spot
+    counting_end s = going_end x (rw s at y.going)
 
-  module _ {out₀ out : List ℕ} {start spot : Spot} {p i : ℕ} (y : OctetsGoing many pasts fines w m l e start out₀ out spot p i) where
-    pub octets_end : length l ≤ i
-        → Puts (many (numbers w m 0 l e) start.from) (pasts (length (numbers w m 0 l e)) start.from) out₀ start.to out spot
-    unfolding block_numbers
-    octets_end h = going_end x (rw (drop_of_length-le l {i = i} h) at y.going)
+    -- one comes
+    module _ {q : ℕ} {rest : List ℕ} (s : todo ≡ q ∷ rest) where
+      come : Counting many pasts fines size all start out₀ (q ∷ rest) out spot
+      come = rw s at y
 
-    -- the octet at i, and what is behind it
-    module _ (h : i < length l) where
-      abbrev rest : List ℕ
-      rest = pick (ltb (get_or l i 0) m) (numbers w m (p + w) l (i + 1)) []
+      pub counting_low : (0 < q) × (q ≤ 511)
+      unfolding Ascending AllBelow
+      counting_low = (omega (arith, come.rising.0), omega (arith, come.low.0))
 
-      there : Going many pasts fines (length l) (numbers w m 0 l e) start out₀ (set_bits w p (get_or l i 0) ++ rest) out spot
-      there = rw (block_next w m p i l h) at y.going
+      pub counting_fine : fine spot.from
+      counting_fine = going_fine_one x q rest come.going
 
-      pub octets_room : start.to + length (many (numbers w m 0 l e) start.from) ≤ length out₀
-          → spot.to + length (many (set_bits w p (get_or l i 0)) spot.from) ≤ length out
-      octets_room = going_room x (set_bits w p (get_or l i 0)) rest there
+      pub counting_room : start.to + length (many all start.from) ≤ length out₀ → spot.to + length (one q spot.from) ≤ length out
+      counting_room h = going_room_one x q rest come.going h
 
-      pub octets_fine : fines (length (set_bits w p (get_or l i 0))) spot.from
-      octets_fine = going_fine x (set_bits w p (get_or l i 0)) rest there
-
-      module _ {out₁ : List ℕ} {spot₁ : Spot}
-          (z : Puts (many (set_bits w p (get_or l i 0)) spot.from) (pasts (length (set_bits w p (get_or l i 0))) spot.from) out spot.to out₁ spot₁) where
-        after : Going many pasts fines (length l) (numbers w m 0 l e) start out₀ rest out₁ spot₁
-        after = going_turn x (set_bits w p (get_or l i 0)) rest there z
-
-        -- it is not the last of the block, or it is
-        pub octets_turn : get_or l i 0 < m → OctetsGoing many pasts fines w m l e start out₀ out₁ spot₁ (p + w) (i + 1)
-        octets_turn k = record { going = rw (lt-ltb _ _ k) at after; reach = omega (arith, y.reach) }
-
-        pub octets_last : m ≤ get_or l i 0
-            → Puts (many (numbers w m 0 l e) start.from) (pasts (length (numbers w m 0 l e)) start.from) out₀ start.to out₁ spot₁
-        octets_last k = going_end x (rw (le-ltb _ _ k) at after)
+      pub counting_turn : {out₁ : List ℕ} {spot₁ : Spot} → Puts (one q spot.from) (past spot.from) out spot.to out₁ spot₁ → Counting many pasts fines size all start out₀ rest out₁ spot₁
+      unfolding Ascending AllBelow
+      counting_turn z = record { going = going_turn_one x q rest come.going z; above = q; rising = come.rising.1; low = come.low.1 }
 
 -- ---- the pieces
 
 -- an NPar(3) block, kept or passed over
-module _ (k : Keep) (c : ℕ) (p : Places) (t : ℕ) (l : List ℕ) (e : ℕ) where
-  pub sub_kept_lem : {ps : Places} → ps ≡ npar_places k (c + t * 512) → kept_place p t ≡ true → sub_kept k c p t l e ≡ block_kept 6 64 ps l e
+module _ (k : Keep) (c : ℕ) (p : Option ℕ) (t : ℕ) (l : List ℕ) (e : ℕ) where
+  pub sub_kept_lem : {ps : Option ℕ} → ps ≡ npar_places k (c + t * 512) → kept_place p t ≡ true → sub_kept k c p t l e ≡ block_kept 6 64 ps l e
   unfolding sub_kept
   sub_kept_lem n h = rw (n, h)
 
@@ -344,7 +268,7 @@ module _ (k : Keep) (c : ℕ) (p : Places) (t : ℕ) (l : List ℕ) (e : ℕ) wh
   sub_passed h = rw h
 
 -- a Par(2) block, kept or passed over
-module _ (k : Keep) (b : ℕ) (p : Places) (q : ℕ) (l : List ℕ) (e : ℕ) where
+module _ (k : Keep) (b : ℕ) (p : Option ℕ) (q : ℕ) (l : List ℕ) (e : ℕ) where
   pub par_kept_lem : kept_place p q ≡ true → par_kept k b p q l e ≡ whole_par k (b + q * of_s) l e
   unfolding par_kept
   par_kept_lem h = rw h
@@ -359,7 +283,7 @@ module _ (k : Keep) (c : ℕ) (l : List ℕ) (e : ℕ) where
   unfolding group_kept group_behind
   group_ended h = (rw h, rw h)
 
-  module _ {p : Places} (s : p ≡ spar_places k c) (h : ended l e ≡ false) where
+  module _ {p : Option ℕ} (s : p ≡ spar_places k c) (h : ended l e ≡ false) where
     pub group_empty : is_empty (sieved 6 64 p l e) ≡ true → group_kept k c l e ≡ []
     unfolding group_kept lower_kept
     group_empty n = rw (h, ← s, n)
@@ -386,7 +310,7 @@ module _ (k : Keep) (c : ℕ) (l : List ℕ) (e : ℕ) where
           group_puts y = rw (group_some, h) (puts_behind x subs (λ f. subs_behind (length (numbers 6 64 0 l e)) l f) y)
 
 -- a Par(2) block: NPar(2) and what is behind it, with bit 8 in the last octet
-module _ (k : Keep) (c : ℕ) (l : List ℕ) (e : ℕ) {p : Places} (n : p ≡ npar_places k c) where
+module _ (k : Keep) (c : ℕ) (l : List ℕ) (e : ℕ) {p : Option ℕ} (n : p ≡ npar_places k c) where
   whole_is : whole_par k c l e ≡ marked (block_kept 6 64 p l e ++ group_kept k c l (behind 64 l e))
   unfolding whole_par
   whole_is = rw n
@@ -421,15 +345,15 @@ module _ (k : Keep) (c : ℕ) (l : List ℕ) (e : ℕ) {p : Places} (n : p ≡ n
         whole_puts = rw whole_is (puts_marked whole_put whole_some within)
 
 -- a field: NPar(1), SPar(1) and its blocks
-module _ (k : Keep) (b : ℕ) (l : List ℕ) (at : ℕ) {n : Places} (np : n ≡ npar_places k b) (out₀ : List ℕ) (to : ℕ) (room : to + length (field_kept k b l at) ≤ length out₀) where
-  field_is : {p : Places} → p ≡ spar_places k b → field_kept k b l at ≡ block_kept 7 128 n l at ++ rest_kept k b p l (behind 128 l at)
+module _ (k : Keep) (b : ℕ) (l : List ℕ) (at : ℕ) {n : Option ℕ} (np : n ≡ npar_places k b) (out₀ : List ℕ) (to : ℕ) (room : to + length (field_kept k b l at) ≤ length out₀) where
+  field_is : {p : Option ℕ} → p ≡ spar_places k b → field_kept k b l at ≡ block_kept 7 128 n l at ++ rest_kept k b p l (behind 128 l at)
   unfolding field_kept
   field_is sp = rw (np, sp)
 
   pub field_room_one : to + length (block_kept 7 128 n l at) ≤ length out₀
   field_room_one = room_first (block_kept 7 128 n l at) (rest_kept k b (spar_places k b) l (behind 128 l at)) to (length out₀) (rw (field_is refl) at room)
 
-  module _ {out₁ : List ℕ} {r : Spot} (x : Puts (block_kept 7 128 n l at) (behind 128 l at) out₀ to out₁ r) {p : Places} (sp : p ≡ spar_places k b) where
+  module _ {out₁ : List ℕ} {r : Spot} (x : Puts (block_kept 7 128 n l at) (behind 128 l at) out₀ to out₁ r) {p : Option ℕ} (sp : p ≡ spar_places k b) where
     abbrev pars : ℕ → List ℕ
     pars f = pars_kept k b p (numbers 7 128 0 l r.from) l f
 

@@ -13,7 +13,7 @@ use Rattle.octets.specs.Places.{pick}
 use Rattle.tree.specs.Block.{behind, announced, ended}
 use Rattle.tree.specs.Codes.{subs_behind, group_behind}
 use Rattle.tree.specs.Form.{and_then, form_at, last_form, subs_form, group_form, pars_form, rest_form, field_form}
-use Rattle.tree.specs.declared.Form.TheVariants.{Fine}
+use Rattle.tree.specs.Form.{Fine}
 use Rattle.tree.proofs.Forms.{and_parts, behind_stop, behind_go, behind_out}
 use Rattle.strike.specs.Inner.{SubsFine}
 

@@ -14,7 +14,7 @@ use Rattle.tree.specs.Codes.{code_of, field_base, field_codes, of_f}
 use Rattle.tree.specs.Form.{is_fine, field_form}
 use Rattle.tree.specs.Fields.{is_in}
 use Rattle.tree.specs.declared.Field.TheVariants.{Identification, Standard}
-use Rattle.tree.specs.declared.Form.TheVariants.{Fine}
+use Rattle.tree.specs.Form.{Fine}
 use Rattle.tree.proofs.Forms.{field_fits}
 use Rattle.message.specs.Kinds.{has_fields, type_of, revision_of, first_octet}
 use Rattle.message.specs.Nonstandard.{ns_announced, tail_form}

@@ -1,3 +1,4 @@
 pub mod Rewriting
 pub mod Striking
+pub mod Promises
 pub mod Inner

@@ -1,6 +1,6 @@
 -- To be believed: a field rewritten (RULES, Striking): of its codes some are kept, and these are written in minimal form.
 -- Assumes nothing.
-use Rattle.std.specs.Prelude.{ℕ, List, [], ◌≡◌, ltb, length}
+use Rattle.std.specs.Prelude.{ℕ, List, [], ◌∷◌, ◌≡◌, ltb, length, Option, Some, None}
 use Rattle.octets.specs.Lay.{put}
 use Rattle.octets.specs.Places.{pick}
 use Rattle.tree.specs.Form.{is_fine}
@@ -19,7 +19,12 @@ kept k f l at = written (base_of f) (only (keeps k) (codes_in f l at))
 unfoldable pub rewritten : Keep → Field → List ℕ → ℕ → ℕ → List ℕ
 rewritten k f l at room = pick (ltb room most_octets) [] (pick (is_fine (form_in l at)) (kept k f l at) [])
 
--- the number of octets n and the output out₁ are those of rewriting the field at a place of l into out₀
-pub record Rewrites (k : Keep) (f : Field) (l : List ℕ) (at : ℕ) (out₀ : List ℕ) (n : ℕ) (out₁ : List ℕ) : Type 0 where
-  pub count : n ≡ length (rewritten k f l at (length out₀))
+-- how many octets they are; none where there is nothing
+abbrev pub counted : List ℕ → Option ℕ
+counted [] = None
+counted (o ∷ os) = Some (length (o ∷ os))
+
+-- the number of octets n, or none, and the output out₁ are those of rewriting the field at a place of l into out₀
+pub record Rewrites (k : Keep) (f : Field) (l : List ℕ) (at : ℕ) (out₀ : List ℕ) (n : Option ℕ) (out₁ : List ℕ) : Type 0 where
+  pub count : n ≡ counted (rewritten k f l at (length out₀))
   pub output : out₁ ≡ put (rewritten k f l at (length out₀)) out₀

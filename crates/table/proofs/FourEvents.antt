@@ -3,12 +3,13 @@
 -- Assumes nothing.
 use Prim.Native.Nat.{ℕ, ◌≤◌, zero-le}
 use native.Mathlib.Omega.{arith}
-use mathlib.Core.Path.{◌≡◌, refl, sym}
-use mathlib.Core.Bool.{Bool, true, false, not, ◌&&◌, ◌||◌, true≢false}
+use mathlib.Core.Path.{◌≡◌, refl}
+use mathlib.Core.Bool.{Bool, true, false, not, ◌&&◌, ◌||◌}
 use mathlib.Core.List.{List, [], ◌∷◌}
 use lib.ListN.{length}
 use lib.Dec.{ltb}
 use borrow.Author.Tests.{ltb-true}
+use Rattle.std.proofs.lemmas.Bool.{and_parts}
 use Rattle.table.specs.declared.Kind.{Kind}
 use Rattle.table.specs.declared.Kind.TheVariants.{AtInitial, AtAskedE, AtAskedD, AtListsE, AtListsD, AtCounter, AtListed, AtTraded, AtPair, AtHalf, AtProposed, AtMode}
 use Rattle.table.specs.declared.Heard.{Heard}
@@ -144,13 +145,9 @@ table_falls AtMode s a h = refl
 
 -- ---- from the test to the bound
 
-both_true : (x y : Bool) → (x && y) ≡ true → (x ≡ true) × (y ≡ true)
-both_true true y h = (refl, h)
-both_true false y h = absurd (true≢false (sym h))
-
 fewer : (k : Kind) (a : Act) (found : Bool) → Falls k a → is_acted a ≡ true → is_fewer k a found ≡ true
-fewer k a true falls acted = (both_true (is_fewer k a true) (is_fewer k a false) (rw acted at falls)).0
-fewer k a false falls acted = (both_true (is_fewer k a true) (is_fewer k a false) (rw acted at falls)).1
+fewer k a true falls acted = (and_parts (is_fewer k a true) (is_fewer k a false) (rw acted at falls)).0
+fewer k a false falls acted = (and_parts (is_fewer k a true) (is_fewer k a false) (rw acted at falls)).1
 
 -- from any phase: at most as many turns as it has left
 turns_bound : (k : Kind) (turns : List Turn) → GoesOn k turns → length turns ≤ turns_left k

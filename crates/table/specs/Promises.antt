@@ -10,19 +10,19 @@ use Rattle.table.specs.declared.Heard.{Heard}
 use Rattle.table.specs.declared.Act.{Act}
 use Rattle.table.specs.declared.Settings.{Settings}
 
--- carried_by
+-- Phase::carried
 abbrev pub TellsCarried : Phase → Carried → Type 0
 TellsCarried phase r = r ≡ carried_by phase
 
--- number_of
+-- Kind::number
 abbrev pub TellsNumber : Kind → ℕ → Type 0
 TellsNumber kind r = r ≡ kind_number kind
 
--- is_mode
+-- Kind::is_mode
 abbrev pub TellsMode : Kind → Bool → Type 0
 TellsMode kind r = r ≡ is_mode kind
 
--- is_over
+-- Kind::is_over
 abbrev pub TellsOver : Kind → Bool → Type 0
 TellsOver kind r = r ≡ is_over kind
 

@@ -7,7 +7,7 @@ ghost use Rattle.table.specs.Rows.{on_mr_e, on_mr_d, on_cr_d, on_cr_e, start_act
 ghost use Rattle.table.specs.Promises.{TellsCarried, TellsNumber, TellsOver, TellsMode, TellsAct};
 
 // A phase with what it carries: the time it was entered (milliseconds), and where an MS was sent or accepted the number of the wish
-// sent, 0 if none, and whether ACK was asked.
+// sent and whether ACK was asked. The rules' state has 0 for no wish (The station 1), so its number is no Option.
 #[derive(Clone, Copy)]
 pub enum Phase {
     Initial(u64),
@@ -30,21 +30,21 @@ pub struct State {
     pub phase: Phase,
 }
 
-// A phase by its name alone.
-#[derive(Clone, Copy)]
+// A phase by its name alone, with a number for each.
+#[derive(Clone, Copy, Debug, PartialEq, Eq)]
 pub enum Kind {
-    AtInitial,
-    AtAskedE,
-    AtAskedD,
-    AtListsE,
-    AtListsD,
-    AtCounter,
-    AtListed,
-    AtTraded,
-    AtPair,
-    AtHalf,
-    AtProposed,
-    AtMode,
+    AtInitial = 0,
+    AtAskedE = 1,
+    AtAskedD = 2,
+    AtListsE = 3,
+    AtListsD = 4,
+    AtCounter = 5,
+    AtListed = 6,
+    AtTraded = 7,
+    AtPair = 8,
+    AtHalf = 9,
+    AtProposed = 10,
+    AtMode = 11,
 }
 
 // A phase's name, and what it carries; where it carries no wish and no ACK, 0 and false.
@@ -171,6 +171,17 @@ struct Row {
     tone: Act,
 }
 
+// The row that acts on none of them, of which the rows of the phases differ in a few places.
+const IDLE: Row = Row {
+    mr_d: Act::NoRow,
+    cr_d: Act::NoRow,
+    ms: Act::NoRow,
+    cl: Act::NoRow,
+    clr: Act::NoRow,
+    ack1: Act::NoRow,
+    tone: Act::NoRow,
+};
+
 // A phase that carries nothing but the time it was entered.
 fn bare(kind: Kind, entry: u64) -> Carried
     ensures { result ≡ record { kind = kind; entry = entry; wish = 0; ack = false } }
@@ -183,192 +194,219 @@ fn bare(kind: Kind, entry: u64) -> Carried
     }
 }
 
-// A phase's name, and what it carries.
-pub fn carried_by(phase: Phase) -> Carried
-    ensures { TellsCarried phase result }
-{
-    match phase {
-        Phase::Initial(t) => bare(Kind::AtInitial, t),
-        Phase::AskedE(t) => bare(Kind::AtAskedE, t),
-        Phase::AskedD(t) => bare(Kind::AtAskedD, t),
-        Phase::ListsE(t) => bare(Kind::AtListsE, t),
-        Phase::ListsD(t) => bare(Kind::AtListsD, t),
-        Phase::Counter(t) => bare(Kind::AtCounter, t),
-        Phase::Listed(t) => bare(Kind::AtListed, t),
-        Phase::Traded(t) => bare(Kind::AtTraded, t),
-        Phase::Pair(t) => bare(Kind::AtPair, t),
-        Phase::Half(t) => bare(Kind::AtHalf, t),
-        Phase::Proposed(entry, wish, ack) => Carried {
-            kind: Kind::AtProposed,
-            entry,
-            wish,
-            ack,
-        },
-        Phase::Mode(entry, wish, ack) => Carried {
-            kind: Kind::AtMode,
-            entry,
-            wish,
-            ack,
-        },
+impl Phase {
+    // A phase's name, and what it carries.
+    pub fn carried(self) -> Carried
+        ensures { TellsCarried self result }
+    {
+        match self {
+            Phase::Initial(t) => bare(Kind::AtInitial, t),
+            Phase::AskedE(t) => bare(Kind::AtAskedE, t),
+            Phase::AskedD(t) => bare(Kind::AtAskedD, t),
+            Phase::ListsE(t) => bare(Kind::AtListsE, t),
+            Phase::ListsD(t) => bare(Kind::AtListsD, t),
+            Phase::Counter(t) => bare(Kind::AtCounter, t),
+            Phase::Listed(t) => bare(Kind::AtListed, t),
+            Phase::Traded(t) => bare(Kind::AtTraded, t),
+            Phase::Pair(t) => bare(Kind::AtPair, t),
+            Phase::Half(t) => bare(Kind::AtHalf, t),
+            Phase::Proposed(entry, wish, ack) => Carried {
+                kind: Kind::AtProposed,
+                entry,
+                wish,
+                ack,
+            },
+            Phase::Mode(entry, wish, ack) => Carried {
+                kind: Kind::AtMode,
+                entry,
+                wish,
+                ack,
+            },
+        }
     }
 }
 
-// A phase's number.
-pub fn number_of(kind: Kind) -> u8
-    ensures { TellsNumber kind result }
-{
-    match kind {
-        Kind::AtInitial => 0,
-        Kind::AtAskedE => 1,
-        Kind::AtAskedD => 2,
-        Kind::AtListsE => 3,
-        Kind::AtListsD => 4,
-        Kind::AtCounter => 5,
-        Kind::AtListed => 6,
-        Kind::AtTraded => 7,
-        Kind::AtPair => 8,
-        Kind::AtHalf => 9,
-        Kind::AtProposed => 10,
-        Kind::AtMode => 11,
+impl Kind {
+    // A phase's number.
+    pub fn number(self) -> u8
+        ensures { TellsNumber self result }
+    {
+        self as u8
+    }
+
+    // Whether a phase is Mode.
+    pub fn is_mode(self) -> bool
+        ensures { TellsMode self result }
+    {
+        self == Kind::AtMode
+    }
+
+    // Whether a transaction is over in a phase.
+    pub fn is_over(self) -> bool
+        ensures { TellsOver self result }
+    {
+        matches!(self, Kind::AtInitial | Kind::AtMode)
     }
 }
 
-// Whether a phase is Mode.
-pub fn is_mode(kind: Kind) -> bool
-    ensures { TellsMode kind result }
-{
-    number_of(kind) == number_of(Kind::AtMode)
-}
-
-// Whether a transaction is over in a phase.
-pub fn is_over(kind: Kind) -> bool
-    ensures { TellsOver kind result }
-{
-    if is_mode(kind) {
-        return true;
-    }
-    number_of(kind) == number_of(Kind::AtInitial)
-}
-
-fn on_mr_e(set: OnMrE) -> Act
-    ensures { result ≡ on_mr_e set }
-{
-    match set {
-        OnMrE::Ms => Act::Propose,
-        OnMrE::MrD => Act::CounterMrD,
-        OnMrE::CrD => Act::SendSignal(Signal::CrD),
+impl OnMrE {
+    fn act(self) -> Act
+        ensures { result ≡ on_mr_e self }
+    {
+        match self {
+            OnMrE::Ms => Act::Propose,
+            OnMrE::MrD => Act::CounterMrD,
+            OnMrE::CrD => Act::SendSignal(Signal::CrD),
+        }
     }
 }
 
-fn on_mr_d(set: OnMrD) -> Act
-    ensures { result ≡ on_mr_d set }
-{
-    match set {
-        OnMrD::Ms => Act::Propose,
-        OnMrD::CrD => Act::SendSignal(Signal::CrD),
+impl OnMrD {
+    fn act(self) -> Act
+        ensures { result ≡ on_mr_d self }
+    {
+        match self {
+            OnMrD::Ms => Act::Propose,
+            OnMrD::CrD => Act::SendSignal(Signal::CrD),
+        }
     }
 }
 
-fn on_cr_d(set: OnCrD) -> Act
-    ensures { result ≡ on_cr_d set }
-{
-    match set {
-        OnCrD::Cl => Act::SendCl,
-        OnCrD::Clr => Act::PairClr,
+impl OnCrD {
+    fn act(self) -> Act
+        ensures { result ≡ on_cr_d self }
+    {
+        match self {
+            OnCrD::Cl => Act::SendCl,
+            OnCrD::Clr => Act::PairClr,
+        }
     }
 }
 
-fn on_cr_e(set: OnCrE, display: OnCrD) -> Act
-    ensures { result ≡ on_cr_e set display }
-{
-    match set {
-        OnCrE::AsOnCrD => on_cr_d(display),
-        OnCrE::CrD => Act::SendSignal(Signal::CrD),
+impl OnCrE {
+    fn act(self, display: OnCrD) -> Act
+        ensures { result ≡ on_cr_e self display }
+    {
+        match self {
+            OnCrE::AsOnCrD => display.act(),
+            OnCrE::CrD => Act::SendSignal(Signal::CrD),
+        }
     }
 }
 
-// A start sends what it names.
-fn start_act(start: Start) -> Act
-    ensures { result ≡ start_act start }
-{
-    match start {
-        Start::MrE => Act::SendSignal(Signal::MrE),
-        Start::MrD => Act::SendSignal(Signal::MrD),
-        Start::CrE => Act::SendSignal(Signal::CrE),
-        Start::CrD => Act::SendSignal(Signal::CrD),
-        Start::Ms => Act::Propose,
-        Start::Cl => Act::SendCl,
-        Start::Clr => Act::SendClr,
+impl Start {
+    // A start sends what it names.
+    fn act(self) -> Act
+        ensures { result ≡ start_act self }
+    {
+        match self {
+            Start::MrE => Act::SendSignal(Signal::MrE),
+            Start::MrD => Act::SendSignal(Signal::MrD),
+            Start::CrE => Act::SendSignal(Signal::CrE),
+            Start::CrD => Act::SendSignal(Signal::CrD),
+            Start::Ms => Act::Propose,
+            Start::Cl => Act::SendCl,
+            Start::Clr => Act::SendClr,
+        }
     }
 }
 
-// What Initial does on a signal.
-fn signal_act(settings: Settings, signal: Signal) -> Act
-    ensures { result ≡ signal_act settings signal }
-{
-    let mr_e = settings.on_mr_e;
-    let cr_e = settings.on_cr_e;
-    let cr_d = settings.on_cr_d;
-    match signal {
-        Signal::MrE => on_mr_e(mr_e),
-        Signal::MrD => Act::Propose,
-        Signal::CrE => on_cr_e(cr_e, cr_d),
-        Signal::CrD => on_cr_d(cr_d),
+impl Settings {
+    // What Initial does on a signal.
+    fn on_signal(self, signal: Signal) -> Act
+        ensures { result ≡ signal_act self signal }
+    {
+        match signal {
+            Signal::MrE => self.on_mr_e.act(),
+            Signal::MrD => Act::Propose,
+            Signal::CrE => self.on_cr_e.act(self.on_cr_d),
+            Signal::CrD => self.on_cr_d.act(),
+        }
+    }
+
+    // What Initial does.
+    fn in_initial(self, heard: Heard) -> Act
+        ensures { result ≡ initial_act self heard }
+    {
+        match heard {
+            Heard::Start(start) => start.act(),
+            Heard::Signal(signal) => self.on_signal(signal),
+            Heard::Ms => Act::Judge,
+            Heard::Cl => Act::Take(After::ThenMs),
+            Heard::Clr => Act::Take(After::ThenCl),
+            Heard::Ack1 => Act::NoRow,
+            Heard::Ack2 => Act::NoRow,
+            Heard::Nak => Act::NoRow,
+            Heard::AnswerTone => Act::NoRow,
+            Heard::Spoilt => Act::SendNak1,
+        }
     }
 }
 
-// What Initial does.
-fn initial_act(settings: Settings, heard: Heard) -> Act
-    ensures { result ≡ initial_act settings heard }
-{
-    match heard {
-        Heard::Start(start) => start_act(start),
-        Heard::Signal(signal) => signal_act(settings, signal),
-        Heard::Ms => Act::Judge,
-        Heard::Cl => Act::Take(After::ThenMs),
-        Heard::Clr => Act::Take(After::ThenCl),
-        Heard::Ack1 => Act::NoRow,
-        Heard::Ack2 => Act::NoRow,
-        Heard::Nak => Act::NoRow,
-        Heard::AnswerTone => Act::NoRow,
-        Heard::Spoilt => Act::SendNak1,
+impl Row {
+    // A row that judges an MS, and does this on MR_d and on CR_d.
+    fn judging(mr_d: Act, cr_d: Act) -> Row
+        ensures { result ≡ judging_row mr_d cr_d }
+    {
+        Row {
+            mr_d,
+            cr_d,
+            ms: Act::Judge,
+            ..IDLE
+        }
     }
-}
 
-// What any other phase but Mode does by its row on a signal.
-fn row_signal(row: Row, signal: Signal) -> Act
-    ensures { result ≡ row_signal row signal }
-{
-    let mr_d = row.mr_d;
-    let cr_d = row.cr_d;
-    match signal {
-        Signal::MrE => Act::NoRow,
-        Signal::MrD => mr_d,
-        Signal::CrE => Act::NoRow,
-        Signal::CrD => cr_d,
+    // A row that does this on CR_d, and on a CL and a CLR, which it takes.
+    fn taking(cr_d: Act, cl: Act, clr: Act) -> Row
+        ensures { result ≡ taking_row cr_d cl clr }
+    {
+        Row {
+            cr_d,
+            cl,
+            clr,
+            ..IDLE
+        }
     }
-}
 
-// What it does by its row.
-fn row_act(row: Row, heard: Heard) -> Act
-    ensures { result ≡ row_act row heard }
-{
-    let ms = row.ms;
-    let cl = row.cl;
-    let clr = row.clr;
-    let ack1 = row.ack1;
-    let tone = row.tone;
-    match heard {
-        Heard::Start(_) => Act::NoRow,
-        Heard::Signal(signal) => row_signal(row, signal),
-        Heard::Ms => ms,
-        Heard::Cl => cl,
-        Heard::Clr => clr,
-        Heard::Ack1 => ack1,
-        Heard::Ack2 => Act::NoRow,
-        Heard::Nak => Act::GiveUp,
-        Heard::AnswerTone => tone,
-        Heard::Spoilt => Act::SendNak1,
+    // A row that agrees on ACK(1), and on the answer tone where ACK was not asked.
+    fn agreeing(asked: bool) -> Row
+        ensures { result ≡ agreeing_row asked }
+    {
+        Row {
+            ack1: Act::Agree,
+            tone: tone_act(asked),
+            ..IDLE
+        }
+    }
+
+    // What any phase but Initial and Mode does by its row on a signal.
+    fn on_signal(self, signal: Signal) -> Act
+        ensures { result ≡ row_signal self signal }
+    {
+        match signal {
+            Signal::MrE => Act::NoRow,
+            Signal::MrD => self.mr_d,
+            Signal::CrE => Act::NoRow,
+            Signal::CrD => self.cr_d,
+        }
+    }
+
+    // What it does by its row.
+    fn act(self, heard: Heard) -> Act
+        ensures { result ≡ row_act self heard }
+    {
+        match heard {
+            Heard::Start(_) => Act::NoRow,
+            Heard::Signal(signal) => self.on_signal(signal),
+            Heard::Ms => self.ms,
+            Heard::Cl => self.cl,
+            Heard::Clr => self.clr,
+            Heard::Ack1 => self.ack1,
+            Heard::Ack2 => Act::NoRow,
+            Heard::Nak => Act::GiveUp,
+            Heard::AnswerTone => self.tone,
+            Heard::Spoilt => Act::SendNak1,
+        }
     }
 }
 
@@ -379,73 +417,28 @@ fn tone_act(asked: bool) -> Act
     if asked { Act::NoRow } else { Act::Agree }
 }
 
-// A row that judges an MS, and does this on MR_d and on CR_d.
-fn judging_row(mr_d: Act, cr_d: Act) -> Row
-    ensures { result ≡ judging_row mr_d cr_d }
-{
-    Row {
-        mr_d,
-        cr_d,
-        ms: Act::Judge,
-        cl: Act::NoRow,
-        clr: Act::NoRow,
-        ack1: Act::NoRow,
-        tone: Act::NoRow,
-    }
-}
-
-// A row that does this on CR_d, and on a CL and a CLR, which it takes.
-fn taking_row(cr_d: Act, cl: Act, clr: Act) -> Row
-    ensures { result ≡ taking_row cr_d cl clr }
-{
-    Row {
-        mr_d: Act::NoRow,
-        cr_d,
-        ms: Act::NoRow,
-        cl,
-        clr,
-        ack1: Act::NoRow,
-        tone: Act::NoRow,
-    }
-}
-
-// A row that agrees on ACK(1), and on the answer tone where ACK was not asked.
-fn agreeing_row(asked: bool) -> Row
-    ensures { result ≡ agreeing_row asked }
-{
-    Row {
-        mr_d: Act::NoRow,
-        cr_d: Act::NoRow,
-        ms: Act::NoRow,
-        cl: Act::NoRow,
-        clr: Act::NoRow,
-        ack1: Act::Agree,
-        tone: tone_act(asked),
-    }
-}
-
 // The table: what is done in a phase when something is heard.
 pub fn act_of(kind: Kind, settings: Settings, asked: bool, heard: Heard) -> Act
     ensures { TellsAct kind settings asked heard result }
 {
-    let mr_d = settings.on_mr_d;
-    let cr_d = settings.on_cr_d;
+    let mr_d = settings.on_mr_d.act();
+    let cr_d = settings.on_cr_d.act();
     let none = Act::NoRow;
     let ms = Act::Take(After::ThenMs);
     let both = Act::Take(After::ThenClMs);
     let half = Act::Take(After::ThenHalf);
     match kind {
-        Kind::AtInitial => initial_act(settings, heard),
-        Kind::AtAskedE => row_act(judging_row(on_mr_d(mr_d), on_cr_d(cr_d)), heard),
-        Kind::AtAskedD => row_act(judging_row(none, none), heard),
-        Kind::AtListsE => row_act(taking_row(on_cr_d(cr_d), ms, both), heard),
-        Kind::AtListsD => row_act(taking_row(none, ms, both), heard),
-        Kind::AtCounter => row_act(judging_row(none, on_cr_d(cr_d)), heard),
-        Kind::AtListed => row_act(judging_row(none, none), heard),
-        Kind::AtTraded => row_act(taking_row(none, ms, none), heard),
-        Kind::AtPair => row_act(taking_row(none, half, none), heard),
-        Kind::AtHalf => row_act(judging_row(none, none), heard),
-        Kind::AtProposed => row_act(agreeing_row(asked), heard),
+        Kind::AtInitial => settings.in_initial(heard),
+        Kind::AtAskedE => Row::judging(mr_d, cr_d).act(heard),
+        Kind::AtAskedD => Row::judging(none, none).act(heard),
+        Kind::AtListsE => Row::taking(cr_d, ms, both).act(heard),
+        Kind::AtListsD => Row::taking(none, ms, both).act(heard),
+        Kind::AtCounter => Row::judging(none, cr_d).act(heard),
+        Kind::AtListed => Row::judging(none, none).act(heard),
+        Kind::AtTraded => Row::taking(none, ms, none).act(heard),
+        Kind::AtPair => Row::taking(none, half, none).act(heard),
+        Kind::AtHalf => Row::judging(none, none).act(heard),
+        Kind::AtProposed => Row::agreeing(asked).act(heard),
         Kind::AtMode => none,
     }
 }

@@ -3,6 +3,9 @@
 -- Assumes nothing.
 use mathlib.Core.Path.{◌≡◌, refl, sym, ap, ◌∙◌}
 use mathlib.Core.List.{List, [], ◌∷◌}
+use Rattle.std.specs.Prelude.{Some, None, Result, Ok, Err}
+use Rattle.std.specs.Result.{IsErrAnd}
+use Rattle.std.proofs.lemmas.Result.{err_from_is_err_and}
 use mathlib.Core.Bool.{Bool, true, false}
 use Prim.Native.Nat.{ℕ, zero, suc, ◌+◌, ◌*◌, ◌-◌, ◌/◌, ◌%◌, ◌^◌, ◌≤◌, ◌<◌}
 use native.Mathlib.Numerals.{add-one}
@@ -19,12 +22,9 @@ use Rattle.octets.specs.Bits.{odd}
 use Rattle.octets.specs.Places.{pick}
 use Rattle.tree.specs.Block.{keep, set_bits, block_numbers, block_end, behind, announced, ended}
 use Rattle.tree.specs.Codes.{subs_behind, group_behind, pars_behind, rest_behind, field_behind}
-use Rattle.tree.specs.Form.{and_then, is_fine, block_form, form_at, last_form, subs_form, group_form, pars_form, rest_form, field_form}
-use Rattle.tree.specs.Fields.{reach_of, form_in}
-use Rattle.tree.specs.Inner.{Reaches}
-use Rattle.tree.specs.declared.Form.{Form}
-use Rattle.tree.specs.declared.Form.TheVariants.{Fine, Early, Wrong, Left, BadLength}
-use Rattle.tree.specs.declared.Reach.{Reach}
+use Rattle.tree.specs.Form.{Form, Fine, Early, Wrong, Left, BadLength, told, form_of, told_end, and_then, is_fine, block_form, form_at, last_form, subs_form, group_form, pars_form, rest_form, field_form}
+use Rattle.tree.specs.Fields.{form_in}
+use Rattle.tree.specs.declared.Fault.{Fault}
 
 -- ---- the form of two parts
 
@@ -51,6 +51,36 @@ and_parts (Early i) x h = (h, cc)
 and_parts (Wrong i) x h = (h, cc)
 and_parts (Left i) x h = (h, cc)
 and_parts (BadLength i) x h = (h, cc)
+
+-- ---- what is told of a form
+
+-- it tells the form
+pub form_told : {A : Type 0} (f : Form) (x : A) → form_of (told f x) ≡ f
+form_told Fine x = refl
+form_told (Early i) x = refl
+form_told (Wrong i) x = refl
+form_told (Left i) x = refl
+form_told (BadLength i) x = refl
+
+-- what `?` returns is the error that it met
+pub exit_is : {A E : Type 0} (r : Result A E) {z : E} {x : Result A E} → IsErrAnd r (λ (y : E). y ≡ z) → Err z ≡ x → r ≡ x
+exit_is r h e = let p = err_from_is_err_and r h in rw (p.1, p.2) e
+
+-- a value tells that no rule is broken
+pub told_ok : {A : Type 0} (f : Form) {x y : A} → Ok y ≡ told f x → (f ≡ Fine) × (y ≡ x)
+told_ok Fine h = (refl, cc)
+told_ok (Early i) h = cc
+told_ok (Wrong i) h = cc
+told_ok (Left i) h = cc
+told_ok (BadLength i) h = cc
+
+-- a fault of the first part is that of both
+pub told_err : {A B : Type 0} (f g : Form) (x : A) (y : B) {z : Fault} → Err z ≡ told f x → Err z ≡ told (and_then f g) y
+told_err Fine g x y h = cc
+told_err (Early i) g x y h = let e : ◌≡◌ {A = Fault} _ _ = cc in ap Err e
+told_err (Wrong i) g x y h = let e : ◌≡◌ {A = Fault} _ _ = cc in ap Err e
+told_err (Left i) g x y h = let e : ◌≡◌ {A = Fault} _ _ = cc in ap Err e
+told_err (BadLength i) g x y h = let e : ◌≡◌ {A = Fault} _ _ = cc in ap Err e
 
 -- ---- a block, octet by octet
 
@@ -220,43 +250,18 @@ block_most w m p (o ∷ l) h = rw length-append (go (ltb o m) (block_most w m (p
 pub announced_most : (w m : ℕ) (l : List ℕ) (e : ℕ) → w ≤ 7 → length l ≤ 64 → announced w m l e ≤ 448
 announced_most w m l e h k = omega (arith, block_most w m 0 (drop e l) h, length-drop e l)
 
--- ---- what is told of a part, told of the whole
-
--- a form and an end under other names
-pub told_as : {f g : Form} {a b : ℕ} {r : Reach} → Reaches f a r → f ≡ g → a ≡ b → Reaches g b r
-told_as t p q = record { told = t.told ∙ p; at = λ z. t.at (p ∙ z) ∙ q }
-
--- a part in which no rule is broken is fine
-pub told_fine : {f g : Form} → g ≡ f → is_fine g ≡ true → f ≡ Fine
-told_fine {f} {g} p h = sym p ∙ is_fine_lem g h
-
--- a rule that is broken in the first part is told at once
-pub told_bad : (f x : Form) (a : ℕ) (r : Reach) → r.form ≡ f → is_fine r.form ≡ false → Reaches (and_then f x) a r
-told_bad f x a r p h =
-    let b : and_then f x ≡ f = and_bad f x (ap is_fine (sym p) ∙ h) in
-    record { told = p ∙ sym b; at = λ z. let y : true ≡ false = ap is_fine (sym z ∙ b ∙ sym p) ∙ h in cc }
-
 -- ---- NPar(3) blocks, one after the other
 
 -- bit 8 stands though a block follows
-pub subs_wrong : (k : ℕ) (l : List ℕ) (e : ℕ) → 0 < k → ended l e ≡ true
-    → Reaches (subs_form k l e) (subs_behind k l e) (record { form = Wrong (e - 1); at = e })
+pub subs_wrong : (k : ℕ) (l : List ℕ) (e : ℕ) → ended l e ≡ true → subs_form (suc k) l e ≡ Wrong (e - 1)
 unfolding subs_form
-subs_wrong zero l e h b = absurd (omega arith)
-subs_wrong (suc k) l e h b = rw b (record { told = refl; at = λ z. cc })
+subs_wrong k l e b = rw b
 
 -- the next block is not well-formed
-pub subs_bad : (k : ℕ) (l : List ℕ) (e : ℕ) (r : Reach) → 0 < k → ended l e ≡ false → r.form ≡ form_at 64 l e
-    → is_fine r.form ≡ false → Reaches (subs_form k l e) (subs_behind k l e) r
+pub subs_bad : (k : ℕ) (l : List ℕ) (e x : ℕ) {z : Fault} → ended l e ≡ false → Err z ≡ told (form_at 64 l e) x
+    → Err z ≡ told (subs_form (suc k) l e) (subs_behind (suc k) l e)
 unfolding subs_form
-subs_bad zero l e r h b p q = absurd (omega arith)
-subs_bad (suc k) l e r h b p q = rw b (told_bad (form_at 64 l e) _ _ r p q)
-
--- the end of blocks is that of the others, from behind the next one on
-pub subs_next : (k : ℕ) (l : List ℕ) (e n : ℕ) → 0 < k → n ≡ behind 64 l e → subs_behind (k - 1) l n ≡ subs_behind k l e
-unfolding subs_behind
-subs_next zero l e n h p = absurd (omega arith)
-subs_next (suc k) l e n h p = let z : suc k - 1 ≡ k = omega arith in rw (z, p)
+subs_bad k l e x b p = rw b (told_err (form_at 64 l e) _ x _ p)
 
 -- one run of them behind another
 pub subs_add : (k n : ℕ) (l : List ℕ) (e : ℕ) → subs_behind (k + n) l e ≡ subs_behind n l (subs_behind k l e)
@@ -264,101 +269,79 @@ unfolding subs_behind
 subs_add zero n l e = let z : 0 + n ≡ n = omega arith in rw z
 subs_add (suc k) n l e = let z : suc k + n ≡ suc (k + n) = omega arith in rw z (subs_add k n l (behind 64 l e))
 
--- and behind the last it is here
-pub subs_end : (k : ℕ) (l : List ℕ) (e : ℕ) → k ≤ 0 → subs_behind k l e ≡ e
-unfolding subs_behind
-subs_end zero l e h = refl
-subs_end (suc k) l e h = absurd (omega arith)
-
 -- behind a well-formed block follow the others
-pub subs_go : (k : ℕ) (l : List ℕ) (e n : ℕ) → 0 < k → ended l e ≡ false → form_at 64 l e ≡ Fine → n ≡ behind 64 l e
-    → (0 < n) × (n ≤ length l) × (subs_form (k - 1) l n ≡ subs_form k l e) × (subs_behind (k - 1) l n ≡ subs_behind k l e)
-unfolding subs_form
-subs_go zero l e n h b f p = absurd (omega arith)
-subs_go (suc k) l e n h b f p =
-    let z : suc k - 1 ≡ k = omega arith in
-    let x = fine_behind 64 l e f in
-    (omega (arith, x), omega (arith, x), rw (z, p, b, f), subs_next (suc k) l e n h p)
+pub subs_go : (k : ℕ) (l : List ℕ) (e n : ℕ) → ended l e ≡ false → form_at 64 l e ≡ Fine → n ≡ behind 64 l e
+    → (0 < n) × (n ≤ length l) × (told (subs_form k l n) (subs_behind k l n) ≡ told (subs_form (suc k) l e) (subs_behind (suc k) l e))
+unfolding subs_form subs_behind
+subs_go k l e n b f p = let x = fine_behind 64 l e f in (omega (arith, x), omega (arith, x), rw (p, b, f))
 
 -- bit 8 stands behind the last block
-pub subs_done : (k : ℕ) (l : List ℕ) (e : ℕ) → k ≤ 0 → ended l e ≡ true
-    → Reaches (subs_form k l e) (subs_behind k l e) (record { form = Fine; at = e })
+pub subs_done : (l : List ℕ) (e : ℕ) → ended l e ≡ true → Ok e ≡ told (subs_form 0 l e) (subs_behind 0 l e)
 unfolding subs_form subs_behind
-subs_done zero l e h b = rw b (record { told = refl; at = λ z. refl })
-subs_done (suc k) l e h b = absurd (omega arith)
+subs_done l e b = rw b
 
 -- bit 8 is missing behind the last block
-pub subs_open : (k : ℕ) (l : List ℕ) (e : ℕ) → k ≤ 0 → ended l e ≡ false
-    → Reaches (subs_form k l e) (subs_behind k l e) (record { form = Wrong (e - 1); at = e })
+pub subs_open : (l : List ℕ) (e : ℕ) → ended l e ≡ false → subs_form 0 l e ≡ Wrong (e - 1)
 unfolding subs_form
-subs_open zero l e h b = rw b (record { told = refl; at = λ z. cc })
-subs_open (suc k) l e h b = absurd (omega arith)
+subs_open l e b = rw b
 
 -- ---- a Par(2) block behind its NPar(2)
 
 -- bit 8 ends the Par(2) block there
-pub group_done : (l : List ℕ) (e : ℕ) → ended l e ≡ true
-    → Reaches (group_form l e) (group_behind l e) (record { form = Fine; at = e })
+pub group_done : (l : List ℕ) (e : ℕ) → ended l e ≡ true → Ok e ≡ told (group_form l e) (group_behind l e)
 unfolding group_form group_behind
-group_done l e b = rw b (record { told = refl; at = λ z. refl })
+group_done l e b = rw b
 
 -- the SPar(2) block is not well-formed
-pub group_bad : (l : List ℕ) (e : ℕ) (r : Reach) → ended l e ≡ false → r.form ≡ form_at 64 l e → is_fine r.form ≡ false
-    → Reaches (group_form l e) (group_behind l e) r
+pub group_bad : (l : List ℕ) (e : ℕ) (x : ℕ) {z : Fault} → ended l e ≡ false → Err z ≡ told (form_at 64 l e) x
+    → Err z ≡ told (group_form l e) (group_behind l e)
 unfolding group_form
-group_bad l e r b p q = rw b (told_bad (form_at 64 l e) _ _ r p q)
+group_bad l e x b p = rw b (told_err (form_at 64 l e) _ x _ p)
 
 -- behind a well-formed SPar(2) block follow the NPar(3) blocks that it announces
-pub group_go : (l : List ℕ) (e k n : ℕ) (r : Reach) → ended l e ≡ false → form_at 64 l e ≡ Fine → k ≡ announced 6 64 l e
-    → n ≡ behind 64 l e → Reaches (subs_form k l n) (subs_behind k l n) r → Reaches (group_form l e) (group_behind l e) r
+pub group_go : (l : List ℕ) (e k n : ℕ) → ended l e ≡ false → form_at 64 l e ≡ Fine → k ≡ announced 6 64 l e → n ≡ behind 64 l e
+    → told (subs_form k l n) (subs_behind k l n) ≡ told (group_form l e) (group_behind l e)
 unfolding group_form group_behind
-group_go l e k n r b f p q t = told_as t (rw (b, f, p, q)) (rw (b, p, q))
+group_go l e k n b f p q = rw (b, f, p, q)
 
 -- ---- Par(2) blocks, one after the other
 
 -- the next NPar(2) block is not well-formed
-pub pars_bad : (k : ℕ) (l : List ℕ) (e : ℕ) (r : Reach) → 0 < k → r.form ≡ form_at 64 l e → is_fine r.form ≡ false
-    → Reaches (pars_form k l e) (pars_behind k l e) r
+pub pars_bad : (k : ℕ) (l : List ℕ) (e x : ℕ) {z : Fault} → Err z ≡ told (form_at 64 l e) x
+    → Err z ≡ told (pars_form (suc k) l e) (pars_behind (suc k) l e)
 unfolding pars_form
-pars_bad zero l e r h p q = absurd (omega arith)
-pars_bad (suc k) l e r h p q = told_bad (form_at 64 l e) _ _ r p q
+pars_bad k l e x p = told_err (form_at 64 l e) _ x _ p
 
 -- what stands behind the next NPar(2) block is not well-formed
-pub pars_stop : (k : ℕ) (l : List ℕ) (e n : ℕ) (r : Reach) → 0 < k → form_at 64 l e ≡ Fine → n ≡ behind 64 l e
-    → r.form ≡ group_form l n → is_fine r.form ≡ false
-    → Reaches (pars_form k l e) (pars_behind k l e) r
+pub pars_stop : (k : ℕ) (l : List ℕ) (e n x : ℕ) {z : Fault} → form_at 64 l e ≡ Fine → n ≡ behind 64 l e
+    → Err z ≡ told (group_form l n) x → Err z ≡ told (pars_form (suc k) l e) (pars_behind (suc k) l e)
 unfolding pars_form
-pars_stop zero l e n r h f q p b = absurd (omega arith)
-pars_stop (suc k) l e n r h f q p b = rw (f, ← q) (told_bad (group_form l n) _ _ r p b)
+pars_stop k l e n x f q p = rw (f, ← q) (told_err (group_form l n) _ x _ p)
 
 -- behind a well-formed Par(2) block follow the others
-pub pars_go : (k : ℕ) (l : List ℕ) (e n a : ℕ) → 0 < k → form_at 64 l e ≡ Fine → n ≡ behind 64 l e → group_form l n ≡ Fine → a ≡ group_behind l n
-    → (pars_form (k - 1) l a ≡ pars_form k l e) × (pars_behind (k - 1) l a ≡ pars_behind k l e)
+pub pars_go : (k : ℕ) (l : List ℕ) (e n a : ℕ) → form_at 64 l e ≡ Fine → n ≡ behind 64 l e → group_form l n ≡ Fine → a ≡ group_behind l n
+    → told (pars_form k l a) (pars_behind k l a) ≡ told (pars_form (suc k) l e) (pars_behind (suc k) l e)
 unfolding pars_form pars_behind
-pars_go zero l e n a h f q g p = absurd (omega arith)
-pars_go (suc k) l e n a h f q g p =
-    let z : suc k - 1 ≡ k = omega arith in
-    (rw (z, f, ← q, g, p), rw (z, ← q, p))
+pars_go k l e n a f q g p = rw (f, ← q, g, p)
 
 -- no block is left
-pub pars_done : (k : ℕ) (l : List ℕ) (e : ℕ) → k ≤ 0 → Reaches (pars_form k l e) (pars_behind k l e) (record { form = Fine; at = e })
+pub pars_done : (l : List ℕ) (e : ℕ) → Ok e ≡ told (pars_form 0 l e) (pars_behind 0 l e)
 unfolding pars_form pars_behind
-pars_done zero l e h = record { told = refl; at = λ z. refl }
-pars_done (suc k) l e h = absurd (omega arith)
+pars_done l e = refl
 
 -- ---- a field
 
 -- behind a well-formed SPar(1) block follow the Par(2) blocks that it announces
-pub rest_go : (l : List ℕ) (e k n : ℕ) (r : Reach) → form_at 128 l e ≡ Fine → k ≡ announced 7 128 l e → n ≡ behind 128 l e
-    → Reaches (pars_form k l n) (pars_behind k l n) r → Reaches (rest_form l e) (rest_behind l e) r
+pub rest_go : (l : List ℕ) (e k n : ℕ) → form_at 128 l e ≡ Fine → k ≡ announced 7 128 l e → n ≡ behind 128 l e
+    → told (pars_form k l n) (pars_behind k l n) ≡ told (rest_form l e) (rest_behind l e)
 unfolding rest_form rest_behind
-rest_go l e k n r f p q t = told_as t (rw (f, p, q)) (rw (p, q))
+rest_go l e k n f p q = rw (f, p, q)
 
 -- behind a well-formed NPar(1) block follows SPar(1)
-pub field_go : (l : List ℕ) (e n : ℕ) (r : Reach) → form_at 128 l e ≡ Fine → n ≡ behind 128 l e
-    → Reaches (rest_form l n) (rest_behind l n) r → Reaches (field_form l e) (field_behind l e) r
+pub field_go : (l : List ℕ) (e n : ℕ) → form_at 128 l e ≡ Fine → n ≡ behind 128 l e
+    → told (rest_form l n) (rest_behind l n) ≡ told (field_form l e) (field_behind l e)
 unfolding field_form field_behind
-field_go l e n r f q t = told_as t (rw (f, q)) (rw q)
+field_go l e n f q = rw (f, q)
 
 -- in a message's octets the form is the field's
 pub form_in_lem : (l : List ℕ) (at : ℕ) → length l ≤ 64 → form_in l at ≡ field_form l at
@@ -422,17 +405,6 @@ field_two l at f =
 pub field_fits : (l : List ℕ) (at : ℕ) → field_form l at ≡ Fine → (at < field_behind l at) × (field_behind l at ≤ length l)
 field_fits l at f = omega (arith, field_two l at f)
 
--- what is told of a field, from its form and, where that is fine, its end
-pub reach_fine : {f : Form} {e : ℕ} {r : Reach} → Reaches f e r → is_fine r.form ≡ true → r ≡ reach_of f e
-reach_fine {f} {e} {r} t z =
-    let g : is_fine f ≡ true = sym (ap is_fine t.told) ∙ z in
-    ap (λ (n : ℕ). record { form = r.form; at = n }) (t.at (is_fine_lem f g)) ∙ ap (λ (x : Form). record { form = x; at = e }) t.told ∙ rw g
-
-pub reach_none : {f : Form} {e : ℕ} {r : Reach} → Reaches f e r → is_fine r.form ≡ false → record { form = r.form; at = 0 } ≡ reach_of f e
-reach_none {f} {e} {r} t z =
-    let g : is_fine f ≡ false = sym (ap is_fine t.told) ∙ z in
-    ap (λ (x : Form). record { form = x; at = 0 }) t.told ∙ rw g
-
 -- a field that is found fine stands in octets of a message
 pub fine_in : (l : List ℕ) (at : ℕ) → is_fine (form_in l at) ≡ true → (length l ≤ 64) × (field_form l at ≡ Fine)
 unfolding form_in
@@ -442,21 +414,25 @@ fine_in l at h = go (ltb 64 (length l)) refl h
     go true e f = let z : ◌≡◌ {A = ℕ} 0 1 = cc in absurd (omega arith)
     go false e f = (ltb-false 64 (length l) e, is_fine_lem (field_form l at) f)
 
--- a place 0 behind it tells that it is not, and any other is its end
-module _ (l : List ℕ) (at : ℕ) {r : ℕ} (t : r ≡ (reach_of (form_in l at) (field_behind l at)).at) where
-  end_told : {b : Bool} → is_fine (form_in l at) ≡ b → r ≡ pick b (field_behind l at) 0
-  end_told e = t ∙ ap (λ (b : Bool). pick b (field_behind l at) 0) e
-
-  pub end_none : r ≡ 0 → is_fine (form_in l at) ≡ false
-  end_none z = go (is_fine (form_in l at)) refl
+-- a field's end tells that it is fine, and no end that it is not
+module _ (l : List ℕ) (at : ℕ) where
+  pub end_none : None ≡ told_end (form_in l at) (field_behind l at) → is_fine (form_in l at) ≡ false
+  end_none t = go (form_in l at) t
     where
-      go : (b : Bool) → is_fine (form_in l at) ≡ b → b ≡ false
-      go true e = absurd (omega (arith, field_fits l at (fine_in l at e).1, end_told e))
-      go false e = refl
+      go : (f : Form) → None ≡ told_end f (field_behind l at) → is_fine f ≡ false
+      go Fine e = cc
+      go (Early i) e = refl
+      go (Wrong i) e = refl
+      go (Left i) e = refl
+      go (BadLength i) e = refl
 
-  pub end_some : (r ≡ 0 → ⊥) → (is_fine (form_in l at) ≡ true) × (r ≡ field_behind l at)
-  end_some n = go (is_fine (form_in l at)) refl
+  pub end_some : {r : ℕ} → Some r ≡ told_end (form_in l at) (field_behind l at)
+      → (is_fine (form_in l at) ≡ true) × (r ≡ field_behind l at)
+  end_some {r} t = go (form_in l at) t
     where
-      go : (b : Bool) → is_fine (form_in l at) ≡ b → (b ≡ true) × (r ≡ field_behind l at)
-      go true e = (refl, end_told e)
-      go false e = absurd (n (end_told e))
+      go : (f : Form) → Some r ≡ told_end f (field_behind l at) → (is_fine f ≡ true) × (r ≡ field_behind l at)
+      go Fine e = (refl, cc)
+      go (Early i) e = cc
+      go (Wrong i) e = cc
+      go (Left i) e = cc
+      go (BadLength i) e = cc

@@ -9,3 +9,4 @@ pub mod Within
 pub mod Modes
 pub mod Shifted
 pub mod Vectors
+pub mod Giving

@@ -4,21 +4,20 @@ use Prim.Native.Nat.{ℕ, zero, suc, ◌+◌, ◌-◌, ◌/◌, ◌%◌, ◌^◌
 use mathlib.Core.Path.{◌≡◌, refl, sym, ap, ◌∙◌}
 use mathlib.Core.Bool.{false}
 use mathlib.Core.List.{List, [], ◌∷◌}
-use native.Mathlib.Nat.{div-one, mod-eq_of_lt, pow-suc}
+use native.Mathlib.Nat.{div-one, pow-suc}
 use native.Mathlib.Numerals.{add-one}
 use native.Mathlib.Omega.{arith}
 use borrow.Author.Tests.{le-ltb, lt-ltb, eq-eqb, ne_eqb}
-use lib.Count.{ones, count_trailing_zeros, under}
+use lib.Count.{count_trailing_zeros, under}
 use lib.Dec.{eqb}
 use lib.ListN.{length}
 use lib.Pow.{field, mod-mod-pow, shr-shr}
 use Rattle.octets.specs.Bits.{odd}
-use Rattle.tree.specs.Block.{keep, set_bits, behind}
-use Rattle.tree.specs.Codes.{subs_behind, field_codes, field_base}
+use Rattle.tree.specs.Block.{keep, set_bits}
+use Rattle.tree.specs.Codes.{field_codes, field_base}
 use Rattle.tree.specs.Fields.{base_of, codes_in, is_in}
 use Rattle.tree.specs.declared.Field.{Field}
 use Rattle.tree.specs.declared.Field.TheVariants.{Identification, Standard}
-use Rattle.tree.proofs.Forms.{announced_ones}
 
 -- ---- the bits of an octet
 
@@ -45,22 +44,6 @@ lowest (suc k) (suc w) p d h pos fits =
         let s : d / 2 ^ suc z ≡ d / 2 / 2 ^ z = sym (shr-shr d 1 z ∙ ap (λ (j : ℕ). d / 2 ^ j) (omega arith)) in
         rw (e, n, i, s) (omega (arith, r.0), r.1, r.2)
     go (suc b) e rest = let i : suc w - 1 ≡ w = omega arith in rw (e, i, div-one d) (omega arith, refl, omega (arith, pow-suc 2 w))
-
--- so many blocks are left behind the one that it announces
-pub bits_next : (d : ℕ) (l : List ℕ) (e n : ℕ) → (d ≡ 0 → ⊥) → d < 64 → n ≡ behind 64 l e → subs_behind (ones (d / 2 ^ count_trailing_zeros 8 d / 2)) l n ≡ subs_behind (ones d) l e
-unfolding subs_behind
-bits_next d l e n some fits h = rw (one_more, h)
-  where
-    rest : ℕ
-    rest = d / 2 ^ count_trailing_zeros 8 d / 2
-
-    low : Lowest 6 0 d (count_trailing_zeros 8 d)
-    low = lowest 8 6 0 d (omega arith) (omega arith) fits
-
-    one_more : ones d ≡ suc (ones rest)
-    one_more =
-        ap ones (sym (mod-eq_of_lt fits)) ∙ sym (announced_ones 6 0 d) ∙ ap length low.1
-        ∙ ap suc (announced_ones _ _ rest ∙ ap ones (mod-eq_of_lt low.2))
 
 -- no bit is set in 0
 pub bits_none : (w p : ℕ) → set_bits w p 0 ≡ []

@@ -4,16 +4,20 @@ use Prim.Native.Nat.{ℕ, suc, ◌+◌, ◌*◌, ◌/◌, ◌%◌, ◌<◌, ◌�
 use mathlib.Core.Bool.{Bool, true, false}
 use mathlib.Core.List.{List, [], ◌∷◌, ◌++◌}
 use mathlib.Core.Logic.{⊎_elim}
-use mathlib.Core.Path.{◌≡◌, refl, ◌∙◌}
+use mathlib.Core.Path.{◌≡◌, refl, sym, ◌∙◌}
 use native.Mathlib.Omega.{arith}
-use borrow.Author.Tests.{lt-ltb, le-ltb, ltb-true}
+use borrow.Author.Tests.{lt-ltb, le-ltb, ltb-true, ltb-false}
+use Rattle.std.specs.Prelude.{Option, Some, None, is_some}
 use lib.Dec.{ltb}
 use lib.ListN.{length}
 use Rattle.octets.specs.Places.{pick}
 use Rattle.tree.specs.Block.{numbers, behind, announced}
 use Rattle.tree.specs.Codes.{field_base, par_codes, rest_codes, field_codes, of_s}
 use Rattle.tree.specs.Order.{Ascending, AllBelow}
-use Rattle.tree.specs.Fields.{is_in, has_spar}
+use Rattle.tree.specs.Fields.{codes_in, is_in, has_spar}
+use Rattle.tree.specs.Promises.{TellsPositions, GivesPositions, TellsSpar}
+use Rattle.tree.specs.declared.Field.TheVariants.{Standard}
+use Rattle.tree.specs.declared.Level.TheVariants.{Top}
 use Rattle.tree.proofs.Ascending.{numbers_between}
 use Rattle.tree.proofs.Within.{in_cases, in_first, in_rest}
 
@@ -78,3 +82,17 @@ field_spar b l at q h =
     let n = numbers_between 7 128 b l at (omega arith) h in
     let m = numbers_between 7 128 0 l (behind 128 l at) (omega arith) h in
     spar_append (numbers 7 128 b l at) _ ∙ rw (npar_none b b (numbers 7 128 b l at) q (omega arith) n.0 n.1) (spar_first b _ l _ q m.0 m.1)
+
+-- as the first position of that block tells, if it has one
+pub spar_told : (l : List ℕ) (at : ℕ) {e : ℕ} {ss : List ℕ} (ts : List ℕ) (r : Option ℕ) → e ≡ behind 128 l at → TellsPositions l e Top ss → GivesPositions ss r ts
+    → TellsSpar l at (is_some r)
+unfolding codes_in has_spar
+spar_told l at {e} {ss} ts r q n g = go (ltb 64 (length l)) refl
+  where
+    first : (r : Option ℕ) → GivesPositions ss r ts → is_some r ≡ ltb 0 (length ss)
+    first None h = rw h.0
+    first (Some s) h = rw (h, lt-ltb 0 (suc (length ts)) (omega arith))
+
+    go : (t : Bool) → ltb 64 (length l) ≡ t → is_some r ≡ has_spar (codes_in Standard l at)
+    go true h = rw (first r g, n, h)
+    go false h = rw (first r g, n, h, q) (sym (field_spar (field_base 2) l at refl (ltb-false 64 (length l) h)))

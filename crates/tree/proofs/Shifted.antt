@@ -14,8 +14,7 @@ use Rattle.octets.specs.Places.{pick}
 use Rattle.tree.specs.Block.{block_numbers, block_end, numbers, behind, announced, ended}
 use Rattle.tree.specs.Codes.{sub_codes, subs_behind, group_codes, group_behind, par_codes, pars_behind, rest_codes, rest_behind, field_codes, field_behind, of_s}
 use Rattle.tree.specs.Form.{and_then, is_fine, block_form, form_at, last_form, subs_form, group_form, pars_form, rest_form, field_form}
-use Rattle.tree.specs.declared.Form.{Form}
-use Rattle.tree.specs.declared.Form.TheVariants.{Fine, Early, Wrong, Left, BadLength}
+use Rattle.tree.specs.Form.{Form, Fine, Early, Wrong, Left, BadLength}
 use Rattle.tree.proofs.Forms.{end_above}
 
 -- ---- whether a form is fine

@@ -9,7 +9,7 @@ use Rattle.tree.specs.Codes.{code_of, field_base, sub_codes, subs_behind, group_
 use Rattle.tree.specs.Form.{block_form, subs_form, group_form, pars_form, rest_form, field_form}
 use Rattle.tree.specs.Wide.{low_fits, field_fits, codes_wide}
 use Rattle.tree.specs.declared.Field.TheVariants.{Standard}
-use Rattle.tree.specs.declared.Form.TheVariants.{Fine, Early, Wrong}
+use Rattle.tree.specs.Form.{Fine, Early, Wrong}
 
 -- code 2.1.0.11
 pub code_of_lem : code_of 2 1 0 11 ≡ 268697611

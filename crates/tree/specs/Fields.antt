@@ -4,12 +4,9 @@
 use Rattle.std.specs.Prelude.{ℕ, ◌+◌, ◌/◌, ◌%◌, Bool, true, false, List, [], ◌∷◌, ltb, eqb, length}
 use Rattle.octets.specs.Places.{pick}
 use Rattle.tree.specs.Codes.{field_base, s_of, field_codes}
-use Rattle.tree.specs.Form.{is_fine, field_form}
+use Rattle.tree.specs.Form.{Form, Left, field_form}
 use Rattle.tree.specs.declared.Field.{Field}
 use Rattle.tree.specs.declared.Field.TheVariants.{Identification, Standard}
-use Rattle.tree.specs.declared.Form.{Form}
-use Rattle.tree.specs.declared.Form.TheVariants.{Left}
-use Rattle.tree.specs.declared.Reach.{Reach}
 
 -- the octets of the longest message
 abbrev pub most_octets : ℕ
@@ -26,10 +23,6 @@ codes_in f l at = pick (ltb most_octets (length l)) [] (field_codes (base_of f) 
 -- the form of a field; in more octets than a message has, the 65th is left over
 unfoldable pub form_in : List ℕ → ℕ → Form
 form_in l at = pick (ltb most_octets (length l)) (Left most_octets) (field_form l at)
-
--- what is told of a field: its form, and the place behind it, or 0 where it is not fine
-abbrev pub reach_of : Form → ℕ → Reach
-reach_of form end = record { form = form; at = pick (is_fine form) end 0 }
 
 -- each number as four octets, lowest first
 unfoldable pub fours : List ℕ → List ℕ

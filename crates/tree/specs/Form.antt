@@ -1,13 +1,45 @@
 -- To be believed: whether a field is well-formed, and if not, which rule broke first and at which octet (RULES, Messages;
 -- V.8 bis 8.2.3). The places are those of Codes.
 -- Assumes nothing.
-use Rattle.std.specs.Prelude.{ℕ, zero, suc, ◌+◌, ◌-◌, ◌/◌, Bool, true, false, List, [], ◌∷◌, ltb, drop}
+use Rattle.std.specs.Prelude.{ℕ, zero, suc, ◌+◌, ◌-◌, ◌/◌, Bool, true, false, List, [], ◌∷◌, Option, Some, None, Result, Ok, Err, ltb, drop}
 use Rattle.octets.specs.Bits.{odd}
 use Rattle.octets.specs.Places.{pick}
 use Rattle.tree.specs.Block.{behind, announced, ended}
 use Rattle.tree.specs.Codes.{group_behind}
-use Rattle.tree.specs.declared.Form.{Form}
-use Rattle.tree.specs.declared.Form.TheVariants.{Fine, Early, Wrong, Left, BadLength}
+use Rattle.tree.specs.declared.Fault.{Fault}
+use Rattle.tree.specs.declared.Fault.TheVariants.{Early as EarlyAt, Wrong as WrongAt, Left as LeftAt, BadLength as BadLengthAt}
+
+-- well-formed, or the first rule that is broken and the place of the octet
+pub data Form : Type 0 where
+  Fine : Form
+  Early : ℕ → Form
+  Wrong : ℕ → Form
+  Left : ℕ → Form
+  BadLength : ℕ → Form
+
+-- how a form is told: where it is fine, with what comes with it
+abbrev pub told : {A : Type 0} → Form → A → Result A Fault
+told Fine x = Ok x
+told (Early i) x = Err (EarlyAt i)
+told (Wrong i) x = Err (WrongAt i)
+told (Left i) x = Err (LeftAt i)
+told (BadLength i) x = Err (BadLengthAt i)
+
+-- the form that is told
+abbrev pub form_of : {A : Type 0} → Result A Fault → Form
+form_of (Ok x) = Fine
+form_of (Err (EarlyAt i)) = Early i
+form_of (Err (WrongAt i)) = Wrong i
+form_of (Err (LeftAt i)) = Left i
+form_of (Err (BadLengthAt i)) = BadLength i
+
+-- what comes with a form, and none where a rule is broken
+abbrev pub told_end : {A : Type 0} → Form → A → Option A
+told_end Fine x = Some x
+told_end (Early i) x = None
+told_end (Wrong i) x = None
+told_end (Left i) x = None
+told_end (BadLength i) x = None
 
 -- the first that reading meets
 abbrev pub and_then : Form → Form → Form

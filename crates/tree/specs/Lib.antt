@@ -3,6 +3,6 @@ pub mod Codes
 pub mod Form
 pub mod Fields
 pub mod Order
+pub mod Levels
 pub mod Wide
-pub mod Inner
 pub mod Promises

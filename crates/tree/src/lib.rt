@@ -1,19 +1,18 @@
 // The parameter tree of one field (V.8 bis 8.2): whether it is well-formed, and the places of its blocks.
 #![tactic(auto)]
 
-ghost use Rattle.std.specs.Prelude.{◌+◌, ◌-◌, ◌/◌, ◌^◌, ◌≤◌, ◌<◌, length, ◌≡◌};
-ghost use Rattle.octets.specs.Bits.{odd};
-ghost use Rattle.octets.specs.Places.{pick};
-ghost use Rattle.tree.specs.Block.{behind, announced};
-ghost use Rattle.tree.specs.Codes.{subs_behind, group_behind, pars_behind, rest_behind, field_behind};
-ghost use Rattle.tree.specs.Form.{form_at, subs_form, group_form, pars_form, rest_form};
-ghost use Rattle.tree.specs.Fields.{form_in};
-ghost use Rattle.tree.specs.Wide.{octet_fits, low_fits, top_fits};
-ghost use Rattle.tree.specs.Inner.{Reaches};
-ghost use Rattle.tree.specs.Promises.{TellsBit8, MarksLast, TellsFine, TellsForm, TellsEnd, TellsBase, TellsSpar, TellsTopBehind, TellsBlockBehind, TellsGroupBehind, TellsFits};
+ghost use Rattle.std.specs.Prelude.{ℕ, List, ◌+◌, ◌-◌, ◌*◌, ◌^◌, ◌≤◌, ◌<◌, ◌++◌, length, ◌≡◌};
 ghost use Rattle.std.specs.Int.Count.{ones};
+ghost use Rattle.std.specs.Iterator.{item_count};
+ghost use Rattle.tree.specs.Levels.{width_of, mark_of};
+ghost use Rattle.tree.specs.Block.{set_bits, block_numbers, behind, announced};
+ghost use Rattle.tree.specs.Codes.{subs_behind, group_behind, rest_behind};
+ghost use Rattle.tree.specs.Form.{told, form_at, group_form, rest_form};
+ghost use Rattle.tree.specs.Wide.{octet_fits, low_fits, top_fits};
+ghost use Rattle.tree.specs.Promises.{TellsWidth, TellsMark, TellsPositions, GivesPositions, TellsBit8, MarksLast, TellsFine, TellsForm, TellsEnd, TellsBase, TellsSpar, TellsTopBehind, TellsBlockBehind, TellsGroupBehind, TellsFits};
 
 use octets::octet_or_zero;
+use std::marker::Model;
 
 // The octets of the longest message.
 pub const MOST_OCTETS: usize = 64;
@@ -45,84 +44,145 @@ pub enum Field {
     Standard,
 }
 
-// Well-formed, or the first rule that is broken and the place of the octet, from 0: the octets end early, bit 7 or 8 stands
-// against the rules, octets are left over, a length is out of range.
-#[derive(Clone, Copy)]
-pub enum Form {
-    Fine,
+// The blocks of level 1, with 7 parameters to an octet and ended by bit 8, and those below, with 6 and ended by bit 7.
+#[derive(Clone, Copy, Debug, PartialEq, Eq)]
+pub enum Level {
+    Top,
+    Low,
+}
+
+impl Level {
+    // How many parameters such a block has to an octet.
+    pub fn width(self) -> u32
+        ensures { TellsWidth self result }
+    {
+        match self {
+            Level::Top => 7,
+            Level::Low => 6,
+        }
+    }
+
+    // What an octet is at least that ends such a block.
+    pub fn mark(self) -> u8
+        ensures { TellsMark self result }
+    {
+        match self {
+            Level::Top => 128,
+            Level::Low => 64,
+        }
+    }
+}
+
+// The first rule that is broken, and the place of the octet, from 0: the octets end early, bit 7 or 8 stands against the rules, octets
+// are left over, a length is out of range.
+#[derive(Clone, Copy, Debug, PartialEq, Eq)]
+pub enum Fault {
     Early(usize),
     Wrong(usize),
     Left(usize),
     BadLength(usize),
 }
 
-// A form, and the place behind what was read.
-#[derive(Clone, Copy)]
-pub struct Reach {
-    pub form: Form,
-    pub at: usize,
-}
-
-// The last octet of a block has its delimiting bit, m, and not bit 8 alone.
-fn last_octet(o: u8, m: u8, i: usize) -> Form
-    requires { 0 < m }
-    ensures { result ≡ pick (odd (o / m)) Form.Fine (Form.Wrong i) }
+// The place behind the block at a place. The octet at hand is asked last, which leaves the back end the shortest loop: five instructions
+// to an octet, where one over the places takes six or seven.
+fn behind(s: &[u8], level: Level, e: usize) -> usize
+    ensures { result ≡ behind (mark_of level) s.now e }
 {
-    if (o / m) % 2 == 1 {
-        return Form::Fine;
+    let mark = level.mark();
+    let mut octet = 0u8;
+    let mut at = e;
+    while octet < mark {
+        if s.len() <= at {
+            return at;
+        }
+        octet = s[at];
+        at += 1;
     }
-    Form::Wrong(i)
+    at
 }
 
-// The block at a place: its form, and the place behind it.
-fn block_at(s: &[u8], m: u8, e: usize) -> Reach
-    requires { 0 < m }
-    ensures { (result.form ≡ form_at m s.now e) × (result.at ≡ behind m s.now e) }
+// The same, if the block is well-formed: its last octet has the delimiting bit, and not bit 8 alone. It has a loop of its own, since a
+// second look at the last octet would cost a field a tenth more instructions.
+fn block_at(s: &[u8], level: Level, e: usize) -> Result<usize, Fault>
+    ensures { result ≡ told (form_at (mark_of level) s.now e) (behind (mark_of level) s.now e) }
 {
-    let mut i = e;
-    while i < s.len() {
+    let mark = level.mark();
+    let mut at = e;
+    for i in e..s.len() {
         let o = s[i];
-        if m <= o {
-            return Reach {
-                form: last_octet(o, m, i),
-                at: i + 1,
+        at = i + 1;
+        if mark <= o {
+            return if (o / mark) % 2 == 1 {
+                Ok(at)
+            } else {
+                Err(Fault::Wrong(i))
             };
         }
-        i += 1;
     }
-    Reach {
-        form: Form::Early(i),
-        at: i,
+    Err(Fault::Early(at))
+}
+
+// The positions that are set in a block and left to give: those in bits, behind the ones passed, and those of the octets that are left,
+// which are numbered behind the next ones.
+#[derive(Drop)]
+pub struct SetPositions<'a> {
+    rest: &'a [u8],
+    level: Level,
+    bits: u8,
+    passed: u32,
+    next: u32,
+}
+
+impl<'a> Model for SetPositions<'a> {
+    ghost Value = { List ℕ };
+
+    ghost view = { λ p. set_bits (p.next - p.passed) p.passed p.bits ++ block_numbers (width_of p.level) (mark_of p.level) p.next p.rest.now };
+
+    ghost invariant = { λ p. (p.passed ≤ p.next) × (p.next ≤ p.passed + 7) × (p.bits < 2 ^ (p.next - p.passed)) × (p.next + 7 * length p.rest.now ≤ 448) };
+}
+
+impl<'a> Iterator for SetPositions<'a> {
+    type Item = u32;
+
+    ghost next_gives = { GivesPositions };
+
+    ghost remaining = { item_count (λ s. s) };
+
+    fn next(&mut self) -> Option<u32> {
+        while self.bits == 0 {
+            let (o, others) = self.rest.split_first()?;
+            let m = self.level.mark();
+            self.bits = *o % m;
+            self.passed = self.next;
+            self.next += self.level.width();
+            self.rest = if *o < m { others } else { &[] };
+        }
+        let zeros = self.bits.trailing_zeros();
+        self.bits = self.bits >> zeros >> 1;
+        self.passed += zeros + 1;
+        Some(self.passed)
     }
 }
 
-// How many blocks the SPar block at a place announces: the ones among the parameter bits of its octets, which are below m.
-fn ones_in(s: &[u8], m: u8, w: usize, e: usize) -> usize
-    requires { (m ≡ 2 ^ w) × (w ≤ 7) × (length s.now ≤ 64) }
-    ensures { (result ≡ announced w m s.now e) × (result ≤ 448) }
+// The positions that are set in the block at a place, in ascending order; more octets than a message has give none.
+pub fn positions<'a>(s: &'a [u8], at: usize, level: Level) -> SetPositions<'a>
+    ensures { TellsPositions s.now at level result }
 {
-    let mut ones = 0usize;
-    let mut i = e;
-    while i < s.len() {
-        let o = s[i];
-        ones += u32::count_ones((o % m) as u32) as usize;
-        if m <= o {
-            return ones;
-        }
-        i += 1;
+    let read: &[u8] = if s.len() <= MOST_OCTETS { s } else { &[] };
+    SetPositions {
+        rest: &read[usize::min(at, read.len())..],
+        level,
+        bits: 0,
+        passed: 0,
+        next: 0,
     }
-    ones
 }
 
 // Bit 8 of the octet before a place; behind the end it is not set.
 pub fn bit8(s: &[u8], e: usize) -> bool
     ensures { TellsBit8 s.now e result }
 {
-    let mut i = 0usize;
-    if 0 < e {
-        i = e - 1;
-    }
-    128 <= octet_or_zero(s, i)
+    128 <= octet_or_zero(s, e.saturating_sub(1))
 }
 
 // Sets bit 8 of the octet before a place, if there is one.
@@ -138,19 +198,13 @@ pub fn mark_last(out: &mut [u8], e: usize)
 }
 
 // Whether no rule is broken.
-pub fn is_fine(form: Form) -> bool
+pub fn is_fine(form: Result<(), Fault>) -> bool
     ensures { TellsFine form result }
 {
-    match form {
-        Form::Fine => true,
-        Form::Early(_) => false,
-        Form::Wrong(_) => false,
-        Form::Left(_) => false,
-        Form::BadLength(_) => false,
-    }
+    form.is_ok()
 }
 
-// Bit 8 of the octet before a place within the octets.
+// Bit 8 of the octet before a place within the octets, which needs no test of the bounds.
 fn is_ended(s: &[u8], e: usize) -> bool
     requires { (0 < e) × (e ≤ length s.now) }
     ensures { TellsBit8 s.now e result }
@@ -158,137 +212,85 @@ fn is_ended(s: &[u8], e: usize) -> bool
     128 <= s[e - 1]
 }
 
-// NPar(3) blocks, count of them, from a place on: bit 8 stands in the very last octet and in no other.
-fn subs_at(s: &[u8], count: usize, start: usize) -> Reach
-    requires { (0 < start) × (start ≤ length s.now) }
-    ensures { Reaches (subs_form count s.now start) (subs_behind count s.now start) result }
-{
-    let mut left = count;
-    let mut e = start;
-    while 0 < left {
+// The octets of a message.
+#[derive(Clone, Copy)]
+struct Octets<'a> {
+    run: &'a [u8],
+    ghost few: { length run.now ≤ 64 },
+}
+
+impl<'a> Octets<'a> {
+    // How many blocks the SPar block at a place announces: the ones among the parameter bits of its octets. They are counted, which takes a
+    // quarter fewer instructions for a field than going over its positions.
+    fn ones_in(self, level: Level, e: usize) -> usize
+        ensures { result ≡ announced (width_of level) (mark_of level) self.entry.run.now e }
+    {
+        let mark = level.mark();
+        let mut ones = 0usize;
+        for i in e..self.run.len() {
+            let o = self.run[i];
+            ones += (o % mark).count_ones() as usize;
+            if mark <= o {
+                return ones;
+            }
+        }
+        ones
+    }
+
+    // The place behind what stands in a Par(2) block behind its NPar(2), which ends before a place: bit 8 stands in the very last octet
+    // and in no other.
+    fn group_at(self, e: usize) -> Result<usize, Fault>
+        requires { (0 < e) × (e ≤ length self.run.now) }
+        ensures { result ≡ told (group_form self.entry.run.now e) (group_behind self.entry.run.now e) }
+    {
+        let s = self.run;
         if is_ended(s, e) {
-            return Reach {
-                form: Form::Wrong(e - 1),
-                at: e,
-            };
+            return Ok(e);
         }
-        let block = block_at(s, 64, e);
-        let form = block.form;
-        if !is_fine(form) {
-            return block;
+        let mut at = block_at(s, Level::Low, e)?;
+        let subs = self.ones_in(Level::Low, e);
+        for _done in 0..subs {
+            if is_ended(s, at) {
+                return Err(Fault::Wrong(at - 1));
+            }
+            at = block_at(s, Level::Low, at)?;
         }
-        e = block.at;
-        left -= 1;
-    }
-    if is_ended(s, e) {
-        return Reach {
-            form: Form::Fine,
-            at: e,
-        };
-    }
-    Reach {
-        form: Form::Wrong(e - 1),
-        at: e,
-    }
-}
-
-// What stands in a Par(2) block behind its NPar(2), which ends before a place.
-fn group_at(s: &[u8], e: usize) -> Reach
-    requires { (0 < e) × (e ≤ length s.now) × (length s.now ≤ 64) }
-    ensures { Reaches (group_form s.now e) (group_behind s.now e) result }
-{
-    if is_ended(s, e) {
-        return Reach {
-            form: Form::Fine,
-            at: e,
-        };
-    }
-    let block = block_at(s, 64, e);
-    let form = block.form;
-    if !is_fine(form) {
-        return block;
-    }
-    let count = ones_in(s, 64, 6, e);
-    subs_at(s, count, block.at)
-}
-
-// Par(2) blocks, count of them, from a place on.
-fn pars_at(s: &[u8], count: usize, start: usize) -> Reach
-    requires { length s.now ≤ 64 }
-    ensures { Reaches (pars_form count s.now start) (pars_behind count s.now start) result }
-{
-    let mut left = count;
-    let mut e = start;
-    while 0 < left {
-        let block = block_at(s, 64, e);
-        let form = block.form;
-        if !is_fine(form) {
-            return block;
+        if is_ended(s, at) {
+            return Ok(at);
         }
-        let group = group_at(s, block.at);
-        let rest = group.form;
-        if !is_fine(rest) {
-            return group;
+        Err(Fault::Wrong(at - 1))
+    }
+
+    // The place behind SPar(1) at a place, and the Par(2) blocks that it announces.
+    fn rest_at(self, e: usize) -> Result<usize, Fault>
+        ensures { result ≡ told (rest_form self.entry.run.now e) (rest_behind self.entry.run.now e) }
+    {
+        let mut at = block_at(self.run, Level::Top, e)?;
+        let pars = self.ones_in(Level::Top, e);
+        for _done in 0..pars {
+            let next = block_at(self.run, Level::Low, at)?;
+            at = self.group_at(next)?;
         }
-        e = group.at;
-        left -= 1;
-    }
-    Reach {
-        form: Form::Fine,
-        at: e,
+        Ok(at)
     }
 }
 
-// SPar(1) at a place, and the Par(2) blocks that it announces.
-fn rest_at(s: &[u8], e: usize) -> Reach
-    requires { length s.now ≤ 64 }
-    ensures { Reaches (rest_form s.now e) (rest_behind s.now e) result }
-{
-    let block = block_at(s, 128, e);
-    let form = block.form;
-    if !is_fine(form) {
-        return block;
-    }
-    let count = ones_in(s, 128, 7, e);
-    pars_at(s, count, block.at)
-}
-
-// The form of the field at a place, and where that is fine the place behind it.
-fn field_at(s: &[u8], at: usize) -> Reach
-    ensures { Reaches (form_in s.now at) (field_behind s.now at) result }
-{
-    if MOST_OCTETS < s.len() {
-        return Reach {
-            form: Form::Left(MOST_OCTETS),
-            at: MOST_OCTETS,
-        };
-    }
-    let block = block_at(s, 128, at);
-    let form = block.form;
-    if !is_fine(form) {
-        return block;
-    }
-    rest_at(s, block.at)
-}
-
-// The form of the field at a place, and the place behind it, or 0 where it is not fine.
-pub fn field_form(s: &[u8], at: usize) -> Reach
+// The place behind the field at a place, if that is well-formed.
+pub fn field_form(s: &[u8], at: usize) -> Result<usize, Fault>
     ensures { TellsForm s.now at result }
 {
-    let reach = field_at(s, at);
-    let form = reach.form;
-    if is_fine(form) {
-        return reach;
+    if MOST_OCTETS < s.len() {
+        return Err(Fault::Left(MOST_OCTETS));
     }
-    Reach { form, at: 0 }
+    let rest = block_at(s, Level::Top, at)?;
+    Octets { run: s }.rest_at(rest)
 }
 
-// The place behind the field at a place, or 0 where it is not fine.
-pub fn field_end(s: &[u8], at: usize) -> usize
+// The place behind the field at a place, and none where that is not well-formed.
+pub fn field_end(s: &[u8], at: usize) -> Option<usize>
     ensures { TellsEnd s.now at result }
 {
-    let reach = field_form(s, at);
-    reach.at
+    field_form(s, at).ok()
 }
 
 // What the codes of a field stand above.
@@ -305,46 +307,29 @@ pub fn base_of(field: Field) -> u32
 pub fn has_spar(s: &[u8], at: usize) -> bool
     ensures { TellsSpar s.now at result }
 {
-    if MOST_OCTETS < s.len() {
-        return false;
-    }
-    let block = block_at(s, 128, at);
-    0 < ones_in(s, 128, 7, block.at)
+    positions(s, top_behind(s, at), Level::Top).next().is_some()
 }
 
-// The place behind the block at a place, at level 1. The octet at hand is asked last, which leaves the back end the shortest loop.
+// The place behind the block at a place, at level 1.
 pub fn top_behind(s: &[u8], e: usize) -> usize
     ensures { TellsTopBehind s.now e result }
 {
-    let mut octet = 0u8;
-    let mut i = e;
-    while octet < 128 {
-        if s.len() <= i {
-            return i;
-        }
-        octet = s[i];
-        i += 1;
-    }
-    i
+    behind(s, Level::Top, e)
 }
 
 // The place behind the block at a place, below level 1.
 pub fn block_behind(s: &[u8], e: usize) -> usize
     ensures { TellsBlockBehind s.now e result }
 {
-    let block = block_at(s, 64, e);
-    block.at
+    behind(s, Level::Low, e)
 }
 
-// The place behind blocks below level 1, one for each bit that is set in an octet.
-fn blocks_behind(s: &[u8], octet: u8, start: usize) -> usize
-    requires { octet < 64 }
-    ensures { result ≡ subs_behind (ones octet) s.now start }
+// The place behind blocks below level 1, count of them.
+fn blocks_behind(s: &[u8], count: u32, start: usize) -> usize
+    ensures { result ≡ subs_behind count s.now start }
 {
-    let mut bits = octet;
     let mut at = start;
-    while bits != 0 {
-        bits = bits >> u8::trailing_zeros(bits) >> 1;
+    for _done in 0..count {
         at = block_behind(s, at);
     }
     at
@@ -355,14 +340,12 @@ fn subs_behind(s: &[u8], e: usize, start: usize) -> usize
     ensures { result ≡ subs_behind (announced 6 64 s.now e) s.now start }
 {
     let mut at = start;
-    let mut i = e;
-    while i < s.len() {
+    for i in e..s.len() {
         let o = s[i];
-        at = blocks_behind(s, o % 64, at);
+        at = blocks_behind(s, (o % 64).count_ones(), at);
         if 64 <= o {
             return at;
         }
-        i += 1;
     }
     at
 }
@@ -395,18 +378,11 @@ fn low_fits(s: &[u8]) -> bool
     ensures { result ≡ low_fits 0 s.now }
 {
     let mut before = 0usize;
-    let mut i = 0usize;
-    while i < s.len() {
-        let o = s[i];
-        if !octet_fits(before, o) {
+    for o in s {
+        if !octet_fits(before, *o) {
             return false;
         }
-        i += 1;
-        if o < 64 {
-            before += 1;
-        } else {
-            before = 0;
-        }
+        before = if *o < 64 { before + 1 } else { 0 };
     }
     true
 }

@@ -3,6 +3,7 @@
 use Prim.Native.Nat.{ℕ, ◌+◌, ◌*◌, ◌%◌, ◌^◌, ◌≤◌, ◌<◌}
 use mathlib.Core.Bool.{Bool, true, false}
 use mathlib.Core.List.{List, [], ◌∷◌}
+use Rattle.std.specs.Prelude.{Option, is_some}
 use mathlib.Core.Path.{◌≡◌, refl, sym, ap, ◌∙◌}
 use native.Mathlib.Omega.{arith}
 use borrow.Author.Tests.{le-ltb, eq-eqb, ne_eqb}
@@ -12,11 +13,11 @@ use Rattle.octets.specs.Places.{pick}
 use Rattle.tree.specs.Block.{set_bits, block_numbers, block_end, numbers, behind, ended}
 use Rattle.tree.specs.Codes.{sub_codes, subs_behind, group_codes, group_behind, par_codes, rest_codes, field_codes, of_s}
 use Rattle.tree.specs.Order.{AllFrom}
-use Rattle.within.specs.Pairing.{next_place, Compared, BlockWithin, BlockEmpty, subs, pars, AllWithin, GroupWithin, FieldWithin}
+use Rattle.within.specs.Pairing.{next_place, from_of, to_of, Compared, BlockWithin, BlockEmpty, subs, pars, AllWithin, GroupWithin, FieldWithin}
 use Rattle.tree.specs.Fields.{base_of, codes_in, is_in, all_in}
 use Rattle.tree.specs.Wide.{low_fits, field_fits, codes_wide}
 use Rattle.tree.specs.declared.Field.{Field}
-use Rattle.within.specs.declared.Paired.{Paired}
+use Rattle.within.specs.declared.Places.{Places}
 use Rattle.within.proofs.Apart.{from_lower, from_ascending, none_within, parts_within, first_within}
 use Rattle.tree.proofs.Ascending.{numbers-ascending, low_between, top_between, par_between, group_above}
 use Rattle.tree.proofs.Forms.{behind_stop, behind_go, behind_out}
@@ -29,7 +30,7 @@ use Rattle.within.proofs.Taking.{bits_within, numbers_out, numbers_next, left_pa
 
 -- of the two blocks as many octets were looked at, all found, and what is asked of them is asked of those from i and j on
 pub record BlockPairing (w m : ℕ) (l : List ℕ) (e : ℕ) (t : List ℕ) (k i j : ℕ) : Type 0 where
-  pub rest : (r : Paired) → BlockWithin w m l i t j r → BlockWithin w m l e t k r
+  pub rest : (r : Option Places) → BlockWithin w m l i t j r → BlockWithin w m l e t k r
 
 module _ {w m : ℕ} {l : List ℕ} {e : ℕ} {t : List ℕ} {k : ℕ} where
   -- none was looked at yet
@@ -38,7 +39,7 @@ module _ {w m : ℕ} {l : List ℕ} {e : ℕ} {t : List ℕ} {k : ℕ} where
 
   module _ {i j : ℕ} (z : BlockPairing w m l e t k i j) where
     -- the first has no more
-    pub block_done : length l ≤ i → {r : Paired} → r.fits ≡ true → r.from ≡ i → r.to ≡ behind m t j → BlockWithin w m l e t k r
+    pub block_done : length l ≤ i → {r : Option Places} → is_some r ≡ true → from_of r ≡ i → to_of r ≡ behind m t j → BlockWithin w m l e t k r
     unfolding all_in
     block_done h f n o = z.rest _ (record { told = λ p. f ∙ rw (numbers_out w m p l i h); from = λ v. n ∙ sym (behind_out m i l h); to = λ v. o })
 
@@ -55,7 +56,7 @@ module _ {w m : ℕ} {l : List ℕ} {e : ℕ} {t : List ℕ} {k : ℕ} where
       octets_parts p = rw (numbers_next w m p l i, numbers_next w m p t j) (left_parts w m w p a b l t (next_place m l i) (next_place m t j))
 
       -- something is lost under the other
-      pub block_lost : (bit_and (a % m) b ≡ a % m → ⊥) → {r : Paired} → r.fits ≡ false → BlockWithin w m l e t k r
+      pub block_lost : (bit_and (a % m) b ≡ a % m → ⊥) → {r : Option Places} → is_some r ≡ false → BlockWithin w m l e t k r
       block_lost x f = z.rest _ (record { told = λ p. f ∙ sym (octets_parts p ∙ rw (bits_within w p a b, ← h, ne_eqb _ _ x)); from = λ n. cc; to = λ n. cc })
 
       -- nothing is
@@ -65,7 +66,7 @@ module _ {w m : ℕ} {l : List ℕ} {e : ℕ} {t : List ℕ} {k : ℕ} where
 
         module _ (some : i < length l) where
           -- the first ends there
-          pub block_last : m ≤ a → {r : Paired} → r.fits ≡ true → r.from ≡ i + 1 → r.to ≡ behind m t j → BlockWithin w m l e t k r
+          pub block_last : m ≤ a → {r : Option Places} → is_some r ≡ true → from_of r ≡ i + 1 → to_of r ≡ behind m t j → BlockWithin w m l e t k r
           unfolding all_in
           block_last o f n v = z.rest _ (record {
             told = λ p. f ∙ sym (block_on p ∙ rw (place_end m l i o, numbers_out w m (p + w) l (length l) (omega arith)));
@@ -75,14 +76,14 @@ module _ {w m : ℕ} {l : List ℕ} {e : ℕ} {t : List ℕ} {k : ℕ} where
 
           module _ (less : a < m) where
             -- only the second does: from there on it has none
-            pub block_rest : j < length t → m ≤ b → {r : Paired} → BlockEmpty m l (i + 1) (j + 1) r → BlockWithin w m l e t k r
+            pub block_rest : j < length t → m ≤ b → {r : Option Places} → BlockEmpty w m l (i + 1) (j + 1) r → BlockWithin w m l e t k r
             block_rest there o y = z.rest _ (record {
               told = λ p.
                   let q = p + w in
-                  (y w h).told q
+                  y.told q
                   ∙ sym (block_on p ∙ rw (place_on m l i some less, place_end m t j o, numbers_out w m q t (length t) (omega arith), numbers_out w m q [] (j + 1) (omega arith)));
-              from = λ n. (y w h).from n ∙ sym (behind_go m i l some less);
-              to = λ n. (y w h).to n ∙ behind_out m (j + 1) [] (omega arith) ∙ sym (behind_stop m j t there o);
+              from = λ n. y.from n ∙ sym (behind_go m i l some less);
+              to = λ n. y.to n ∙ behind_out m (j + 1) [] (omega arith) ∙ sym (behind_stop m j t there o);
             })
 
             -- both go on
@@ -127,7 +128,7 @@ empty_lost m o k h x = h (sym x ∙ under_none (o % m) k)
 
 -- ---- what one position announces
 
-module _ (l t : List ℕ) (h : low_fits 0 l ≡ true) (h' : low_fits 0 t ≡ true) (e k : ℕ) {r : Paired} (x : BlockWithin 6 64 l e t k r) where
+module _ (l t : List ℕ) (h : low_fits 0 l ≡ true) (h' : low_fits 0 t ≡ true) (e k : ℕ) {r : Option Places} (x : BlockWithin 6 64 l e t k r) where
   -- the NPar(3) block of an SPar(2) position
   pub sub_found : Compared (sub_one l e) (sub_one t k) (behind 64 l e) (behind 64 t k) r
   sub_found = record {
@@ -137,7 +138,7 @@ module _ (l t : List ℕ) (h : low_fits 0 l ≡ true) (h' : low_fits 0 t ≡ tru
   }
 
   -- the Par(2) block of an SPar(1) position: its NPar(2), and what stands behind
-  par_parts : (y : ℕ) → all_in (par_one l e y) (par_one t k y) ≡ pick r.fits (all_in (group_codes y l (behind 64 l e)) (group_codes y t (behind 64 t k))) false
+  par_parts : (y : ℕ) → all_in (par_one l e y) (par_one t k y) ≡ pick (is_some r) (all_in (group_codes y l (behind 64 l e)) (group_codes y t (behind 64 t k))) false
   par_parts y =
       first_within y _ _ (par_between y l e h).0 (par_between y t k h').0
       ∙ parts_within (y + 512) (numbers 6 64 y l e) (group_codes y l (behind 64 l e)) (numbers 6 64 y t k) (group_codes y t (behind 64 t k))
@@ -145,10 +146,10 @@ module _ (l t : List ℕ) (h : low_fits 0 l ≡ true) (h' : low_fits 0 t ≡ tru
       (low_between y t k h').1 (from_ascending (y + 512) (y + 511) _ (omega arith) (group_above y t (behind 64 t k) h'))
       ∙ rw (sym (x.told y))
 
-  pub par_lost : r.fits ≡ false → Compared (par_one l e) (par_one t k) (group_behind l (behind 64 l e)) (group_behind t (behind 64 t k)) r
+  pub par_lost : is_some r ≡ false → Compared (par_one l e) (par_one t k) (group_behind l (behind 64 l e)) (group_behind t (behind 64 t k)) r
   par_lost n = record { told = λ y. n ∙ sym (par_parts y ∙ rw n); from = λ v. cc; to = λ v. cc }
 
-  pub par_found : r.fits ≡ true → {r₁ : Paired} → GroupWithin l r.from t r.to r₁
+  pub par_found : is_some r ≡ true → {r₁ : Option Places} → GroupWithin l (from_of r) t (to_of r) r₁
       → Compared (par_one l e) (par_one t k) (group_behind l (behind 64 l e)) (group_behind t (behind 64 t k)) r₁
   par_found n z =
       let g = rw (x.from n, x.to n) at z in
@@ -163,17 +164,17 @@ group_past l e h = rw h
 
 module _ (l : List ℕ) (e : ℕ) (t : List ℕ) (k : ℕ) where
   -- nothing does in the first
-  pub group_none : ended l e ≡ true → {r : Paired} → r.fits ≡ true → r.from ≡ e → r.to ≡ group_behind t k → GroupWithin l e t k r
+  pub group_none : ended l e ≡ true → {r : Option Places} → is_some r ≡ true → from_of r ≡ e → to_of r ≡ group_behind t k → GroupWithin l e t k r
   unfolding group_codes all_in
   group_none h f n o = record { told = λ c. rw (f, h); from = λ v. n ∙ sym (group_past l e h); to = λ v. o }
 
-  module _ (h : ended l e ≡ false) {r : Paired} where
+  module _ (h : ended l e ≡ false) {r : Option Places} where
     -- or in the second: then nothing may be set in SPar(2)
-    pub group_alone : ended t k ≡ true → BlockEmpty 64 l e k r → GroupWithin l e t k r
+    pub group_alone : ended t k ≡ true → BlockEmpty 6 64 l e k r → GroupWithin l e t k r
     unfolding group_codes group_behind sub_codes subs_behind is_in all_in
     group_alone o none =
-        let x = none 6 refl in
-        let told : r.fits ≡ all_in (numbers 6 64 0 l e) [] = rw (numbers_out 6 64 0 [] k (omega arith)) at (x.told 0) in
+        let x = none in
+        let told : is_some r ≡ all_in (numbers 6 64 0 l e) [] = rw (numbers_out 6 64 0 [] k (omega arith)) at (x.told 0) in
         record {
           told = λ c. told ∙ rw (h, o) (no_codes c (numbers 6 64 0 l e));
           from = λ n. rw (h, none_within (numbers 6 64 0 l e) (sym told ∙ n)) (x.from n);
@@ -207,11 +208,11 @@ module _ (l t : List ℕ) (i j : ℕ) (h : field_fits l i ≡ true) (h' : field_
       let g = fits_parts t j h' in
       parts_within (b + 512) _ _ _ _ (top_between b l i f.0).1 (rest_from b l (behind 128 l i) f.2) (top_between b t j g.0).1 (rest_from b t (behind 128 t j) g.2)
 
-  module _ {r : Paired} (x : BlockWithin 7 128 l i t j r) where
-    pub field_lost : r.fits ≡ false → FieldWithin l i t j false
+  module _ {r : Option Places} (x : BlockWithin 7 128 l i t j r) where
+    pub field_lost : is_some r ≡ false → FieldWithin l i t j false
     field_lost n = record { told = λ b. sym (field_parts b ∙ rw (sym (x.told b), n)) }
 
-    pub field_found : r.fits ≡ true → {r₁ : Paired} → AllWithin (pars l) (pars t) 7 128 l r.from t r.to r₁ → FieldWithin l i t j r₁.fits
+    pub field_found : is_some r ≡ true → {r₁ : Option Places} → AllWithin (pars l) (pars t) 7 128 l (from_of r) t (to_of r) r₁ → FieldWithin l i t j (is_some r₁)
     unfolding rest_codes
     field_found n y =
         let v = rw (x.from n, x.to n) at y in

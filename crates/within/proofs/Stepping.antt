@@ -13,17 +13,20 @@ use Rattle.octets.specs.Places.{pick}
 use Rattle.tree.specs.Block.{numbers, behind}
 use Rattle.tree.specs.Codes.{sub_codes, subs_behind, group_codes, group_behind, par_codes, pars_behind, of_s}
 use Rattle.tree.specs.Order.{AllBelow, AllFrom}
-use Rattle.within.specs.Pairing.{Compared, BlockWithin, Level, subs, pars, one_of, OneWithin, AllWithin}
+use Rattle.within.specs.Pairing.{from_of, to_of, Compared, BlockWithin, Spars, subs, pars, spars, one_of, OneWithin, AllWithin}
 use Rattle.tree.specs.Fields.{is_in, all_in}
 use Rattle.tree.specs.Wide.{low_fits}
-use Rattle.within.specs.declared.Paired.{Paired}
+use Rattle.std.specs.Prelude.{Option, is_some}
+use Rattle.tree.specs.declared.Level.{Level}
+use Rattle.tree.specs.declared.Level.TheVariants.{Top, Low}
+use Rattle.within.specs.declared.Places.{Places}
 use Rattle.within.proofs.Apart.{from_lower, from_append, from_ascending, in_none, in_append, in_behind, parts_within}
 use Rattle.tree.proofs.Ascending.{low_between, par_between}
 use Rattle.tree.proofs.Within.{in_cases, in_first, all_in-is_in, is_in-all_in}
 
 -- codes made of positions one after the other, each read at the place behind the one before; those of a position are from low on,
 -- and below low of the next
-pub record Stepped (x : Level) (low : ℕ → ℕ → ℕ) (one : ℕ → ℕ → List ℕ) (next : ℕ → ℕ) : Type 0 where
+pub record Stepped (x : Spars) (low : ℕ → ℕ → ℕ) (one : ℕ → ℕ → List ℕ) (next : ℕ → ℕ) : Type 0 where
   pub none : (c e : ℕ) → x.codes c [] e ≡ []
   pub more : (c q : ℕ) (qs : List ℕ) (e : ℕ) → x.codes c (q ∷ qs) e ≡ one e (low c q) ++ x.codes c qs (next e)
   pub stay : (e : ℕ) → x.past [] e ≡ e
@@ -70,9 +73,26 @@ module _ (l : List ℕ) (h : low_fits 0 l ≡ true) where
     first = λ y e. in_first y _;
   }
 
+-- the same by the level of the SPar block
+abbrev pub low_at : Level → ℕ → ℕ → ℕ
+low_at Top c q = c + q * of_s
+low_at Low c q = c + q * 512
+
+abbrev pub one_at : Level → List ℕ → ℕ → ℕ → List ℕ
+one_at Top = par_one
+one_at Low = sub_one
+
+abbrev pub next_at : Level → List ℕ → ℕ → ℕ
+next_at Top l e = group_behind l (behind 64 l e)
+next_at Low l e = behind 64 l e
+
+pub spars_stepped : (v : Level) (l : List ℕ) → low_fits 0 l ≡ true → Stepped (spars v l) (low_at v) (one_at v l) (next_at v l)
+spars_stepped Top l h = pars_stepped l h
+spars_stepped Low l h = subs_stepped l h
+
 -- ---- one position
 
-module _ {x : Level} {low : ℕ → ℕ → ℕ} {one : ℕ → ℕ → List ℕ} {next : ℕ → ℕ} (s : Stepped x low one next) where
+module _ {x : Spars} {low : ℕ → ℕ → ℕ} {one : ℕ → ℕ → List ℕ} {next : ℕ → ℕ} (s : Stepped x low one next) where
   -- the codes of positions that are not below q
   pub many_from : (c q : ℕ) (qs : List ℕ) (e : ℕ) → AllFrom q qs → AllFrom (low c q) (x.codes c qs e)
   unfolding AllFrom
@@ -122,7 +142,7 @@ module _ {x : Level} {low : ℕ → ℕ → ℕ} {one : ℕ → ℕ → List ℕ
       go true i rest = refl
       go false i rest = rest (sym (behind_it (eqb-false r q i) (ltb r q) refl) ∙ rw (s.more c r qs e) at h)
 
-module _ {x y : Level} {low : ℕ → ℕ → ℕ} {one one' : ℕ → ℕ → List ℕ} {next next' : ℕ → ℕ} (s : Stepped x low one next) (u : Stepped y low one' next') (a : Paired) where
+module _ {x y : Spars} {low : ℕ → ℕ → ℕ} {one one' : ℕ → ℕ → List ℕ} {next next' : ℕ → ℕ} (s : Stepped x low one next) (u : Stepped y low one' next') (a : Places) where
   -- what is asked of a position, and of what is behind it, is asked of each for itself
   one_parts : (c q : ℕ) (mine : Bool) (qs qs' : List ℕ) → AllFrom (q + 1) qs → AllFrom (q + 1) qs'
       → all_in (x.codes c (one_of mine q ++ qs) a.from) (y.codes c (q ∷ qs') a.to)
@@ -133,7 +153,7 @@ module _ {x y : Level} {low : ℕ → ℕ → ℕ} {one one' : ℕ → ℕ → L
       (parts_within (low c (q + 1)) _ _ _ _ (one_below s c mine q a.from) (many_from s c (q + 1) qs _ f) (u.below c q a.to) (many_from u c (q + 1) qs' _ g))
 
   -- what it announces was compared
-  one_within : {mine : Bool} {r : Paired} → Compared (λ c. pick mine (one a.from c) []) (one' a.to) (pick mine (next a.from) a.from) (next' a.to) r → OneWithin x y mine a r
+  one_within : {mine : Bool} {r : Option Places} → Compared (λ c. pick mine (one a.from c) []) (one' a.to) (pick mine (next a.from) a.from) (next' a.to) r → OneWithin x y mine a r
   one_within {mine = mine} z = record {
     found = λ n q qs qs' f g o v. record {
       told = λ c. v.told c ∙ sym (one_parts c q mine qs qs' f g ∙ rw (sym (z.told (low c q)), n, sym (z.from n), sym (z.to n)));
@@ -144,15 +164,15 @@ module _ {x y : Level} {low : ℕ → ℕ → ℕ} {one one' : ℕ → ℕ → L
   }
 
   -- only the second has it set, or both have
-  pub one_passed : {mine : Bool} → mine ≡ false → {r : Paired} → r.fits ≡ true → r.from ≡ a.from → r.to ≡ next' a.to → OneWithin x y mine a r
+  pub one_passed : {mine : Bool} → mine ≡ false → {r : Option Places} → is_some r ≡ true → from_of r ≡ a.from → to_of r ≡ next' a.to → OneWithin x y mine a r
   unfolding all_in
   one_passed h k n m = rw h (one_within {mine = false} (record { told = λ c. k; from = λ v. n; to = λ v. m }))
 
-  pub one_both : {mine : Bool} → mine ≡ true → {r : Paired} → Compared (one a.from) (one' a.to) (next a.from) (next' a.to) r → OneWithin x y mine a r
+  pub one_both : {mine : Bool} → mine ≡ true → {r : Option Places} → Compared (one a.from) (one' a.to) (next a.from) (next' a.to) r → OneWithin x y mine a r
   one_both h z = rw h (one_within {mine = true} z)
 
 -- a position of the first alone has a code that the second has not
-module _ {x y : Level} {low : ℕ → ℕ → ℕ} {one one' : ℕ → ℕ → List ℕ} {next next' : ℕ → ℕ} (s : Stepped x low one next) (u : Stepped y low one' next') where
+module _ {x y : Spars} {low : ℕ → ℕ → ℕ} {one one' : ℕ → ℕ → List ℕ} {next next' : ℕ → ℕ} (s : Stepped x low one next) (u : Stepped y low one' next') where
   codes_lost : (c : ℕ) (qs qs' : List ℕ) (e k : ℕ) → all_in qs qs' ≡ false → all_in (x.codes c qs e) (y.codes c qs' k) ≡ false
   codes_lost c qs qs' e k h = go (all_in (x.codes c qs e) (y.codes c qs' k)) refl
     where
@@ -162,5 +182,5 @@ module _ {x y : Level} {low : ℕ → ℕ → ℕ} {one one' : ℕ → ℕ → L
           cc
       go false i = refl
 
-  pub all_lost : (w m : ℕ) (l : List ℕ) (e : ℕ) (t : List ℕ) (k : ℕ) {r : Paired} → BlockWithin w m l e t k r → r.fits ≡ false → AllWithin x y w m l e t k r
+  pub all_lost : (w m : ℕ) (l : List ℕ) (e : ℕ) (t : List ℕ) (k : ℕ) {r : Option Places} → BlockWithin w m l e t k r → is_some r ≡ false → AllWithin x y w m l e t k r
   all_lost w m l e t k b n = record { told = λ c. n ∙ sym (codes_lost c _ _ _ _ (sym (b.told 0) ∙ n)); from = λ v. cc; to = λ v. cc }

@@ -37,7 +37,7 @@ pub heads_next : (h : ℕ) (l : List ℕ) → heads_from 0 (h ∷ l) ≡ head_pu
 heads_next h l = rw (← (heads_from_lem (h + 512) l)) (unfold heads_from in rw (le-ltb h 0 (omega arith)))
 
 -- of two lists the last octet is marked: that of the first if the second has none
-marked_both : (X Y : List ℕ) → marked (X ++ Y) ≡ pick (is_empty Y) (marked X) X ++ marked Y
+pub marked_both : (X Y : List ℕ) → marked (X ++ Y) ≡ pick (is_empty Y) (marked X) X ++ marked Y
 unfolding marked
 marked_both X [] = rw (append-nil X, append-nil (marked X))
 marked_both [] (y ∷ Y) = refl

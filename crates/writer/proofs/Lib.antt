@@ -2,3 +2,4 @@ pub mod Heads
 pub mod Putting
 pub mod Parents
 pub mod WriterUnique
+pub mod Checking

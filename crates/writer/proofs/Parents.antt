@@ -1,24 +1,31 @@
 -- A list of codes judged code by code: its order, and that each code has its parents.
 -- Assumes nothing.
-use Prim.Native.Nat.{ℕ, suc, ◌+◌, ◌-◌, ◌*◌, ◌/◌, ◌%◌, ◌<◌, ◌≤◌, max}
+use Prim.Native.Nat.{ℕ, zero, suc, ◌-◌, ◌*◌, ◌/◌, ◌%◌, ◌<◌, ◌≤◌, max}
 use mathlib.Core.Path.{◌≡◌, refl, sym, ap, ◌∙◌}
-use mathlib.Core.Bool.{Bool, true, false}
+use mathlib.Core.Bool.{Bool, true, false, ◌&&◌}
 use mathlib.Core.List.{List, [], ◌∷◌}
 use mathlib.Core.Logic.{◌⊎◌, inl, inr, ⊎_elim}
-use native.Mathlib.Nat.{suc-mul, zero-mod, mod-lt, mod-add-div', mul-mod_left, mul-le-mul_right, lt_of_mul-lt-mul_right}
+use native.Mathlib.Nat.{suc-mul, mod-lt, mod-add-div', mul-mod_left, mul-le-mul_right, lt_of_mul-lt-mul_right}
+use native.Mathlib.Numerals.{add-one}
 use native.Mathlib.Omega.{arith}
-use borrow.Author.Tests.{ltb-true, lt-ltb, le-ltb, eqb-false, eq-eqb, ne_eqb}
+use borrow.Author.Tests.{ltb-true, eqb-false, eq-eqb, ne_eqb}
 use lib.Dec.{ltb, eqb}
-use lib.ListN.{length, get_or, drop}
+use lib.ListN.{length, get_or}
+use Rattle.std.specs.Prelude.{Result, Ok, Err, is_ok}
+use Rattle.std.specs.Ordering.{nat_cmp}
+use Rattle.std.specs.List.{list_all, IsAllAdjacentAnswer}
+use Rattle.std.specs.List.Sorted.{IsBinarySearchResult}
+use Rattle.std.proofs.lemmas.List.Sorted.{searched}
+use Rattle.std.proofs.lemmas.Bool.{cases_lt}
 use Rattle.octets.specs.Places.{pick}
 use Rattle.tree.specs.Codes.{n_of, of_f, of_s}
 use Rattle.tree.specs.Fields.{is_in}
 use Rattle.message.specs.Kinds.{known}
-use Rattle.meaning.specs.Meaning.{ascending_from, ascending, has_parent, all_parented}
+use Rattle.meaning.specs.Meaning.{shaped, all_shaped, ascending_from, ascending, has_parent, all_parented}
 use Rattle.meaning.specs.Writing.{is_empty}
 use Rattle.writer.specs.Inner.{stands_under}
 use Rattle.meaning.proofs.Growing.{in_cons, in_first, in_rest}
-use Rattle.octets.proofs.Laws.{drop_next, both_true}
+use Rattle.octets.proofs.Laws.{both_true}
 
 -- a list is empty if its length is 0
 pub empty_test : (l : List ℕ) → is_empty l ≡ eqb (length l) 0
@@ -31,22 +38,62 @@ empty_none l h = empty_test l ∙ eq-eqb (length l) 0 h
 pub empty_some : (l : List ℕ) → (length l ≡ 0 → ⊥) → is_empty l ≡ false
 empty_some l h = empty_test l ∙ ne_eqb (length l) 0 h
 
+-- ---- the shapes
+
+pub shaped_each : (l : List ℕ) → list_all shaped l ≡ all_shaped l
+unfolding all_shaped
+shaped_each [] = refl
+shaped_each (c ∷ l) = go (shaped c) (shaped_each l)
+  where
+    go : (t : Bool) → list_all shaped l ≡ all_shaped l → t && list_all shaped l ≡ pick t (all_shaped l) false
+    go true e = e
+    go false e = refl
+
 -- ---- the order
 
--- a list ascends if what is behind its first code ascends from there
-pub ascending_start : (l : List ℕ) → ascending_from (get_or l 0 0) (drop 1 l) ≡ ascending l
+-- a list ascends if each code is below the next, and the first two that are not stop it
+adjacent_up : (l : List ℕ) → ((k d : ℕ) → suc k < length l → true ≡ ltb (get_or l k d) (get_or l (suc k) d)) → true ≡ ascending l
 unfolding ascending_from
-ascending_start [] = refl
-ascending_start (c ∷ l) = refl
+adjacent_up [] h = refl
+adjacent_up (c ∷ []) h = refl
+adjacent_up (c ∷ (d ∷ l)) h = rw (sym (h 0 0 (omega arith))) (adjacent_up (d ∷ l) (λ k e m. h (suc k) e (omega arith)))
 
--- the next code is above the last one, or it is not
-pub ascending_next : (l : List ℕ) (x i : ℕ) → i < length l → x < get_or l i 0 → ascending_from (get_or l (i + 1 - 1) 0) (drop (i + 1) l) ≡ ascending_from x (drop i l)
+adjacent_stops : (l : List ℕ) (k : ℕ) → suc k < length l → ((d : ℕ) → false ≡ ltb (get_or l k d) (get_or l (suc k) d)) → false ≡ ascending l
 unfolding ascending_from
-ascending_next l x i h k = let e : i + 1 - 1 ≡ i = omega arith in rw (e, drop_next l i h, lt-ltb _ _ k)
+adjacent_stops [] k h s = absurd (omega arith)
+adjacent_stops (c ∷ []) k h s = absurd (omega arith)
+adjacent_stops (c ∷ (d ∷ l)) zero h s = rw (sym (s 0))
+adjacent_stops (c ∷ (d ∷ l)) (suc k) h s = go (ltb c d) (adjacent_stops (d ∷ l) k (omega arith) s)
+  where
+    go : (t : Bool) → false ≡ ascending_from d l → false ≡ pick t (ascending_from d l) false
+    go true e = e
+    go false e = refl
 
-pub ascending_stops : (l : List ℕ) (x i : ℕ) → i < length l → get_or l i 0 ≤ x → false ≡ ascending_from x (drop i l)
+pub adjacent_ascending : (l : List ℕ) (r : Bool) → IsAllAdjacentAnswer (λ x y b. b ≡ ltb x y) l r → r ≡ ascending l
+adjacent_ascending l true h = adjacent_up l (λ k d m. rw (add-one k) at (h k d (omega arith)))
+adjacent_ascending l false h = adjacent_stops l h.0 (omega (arith, h.1)) (λ d. rw (add-one h.0) at (h.2 d))
+
+-- behind its first code a list ascends too
+ascending_rest : (c : ℕ) (l : List ℕ) → ascending_from c l ≡ true → ascending l ≡ true
 unfolding ascending_from
-ascending_stops l x i h k = rw (drop_next l i h, le-ltb _ _ k)
+ascending_rest c [] u = refl
+ascending_rest c (d ∷ l) u = (both_true (ltb c d) (ascending_from d l) u).1
+
+-- its codes rise
+rises_above : (b : ℕ) (l : List ℕ) (i : ℕ) → ascending_from b l ≡ true → i < length l → b < get_or l i 0
+unfolding ascending_from
+rises_above b [] i u h = absurd (omega arith)
+rises_above b (c ∷ l) zero u h = ltb-true b c (both_true (ltb b c) (ascending_from c l) u).0
+rises_above b (c ∷ l) (suc i) u h =
+    let u' = both_true (ltb b c) (ascending_from c l) u in
+    omega (arith, ltb-true b c u'.0, rises_above c l i u'.1 (omega arith))
+
+rises : (l : List ℕ) → ascending l ≡ true → (i j : ℕ) → i ≤ j → j < length l → get_or l i 0 ≤ get_or l j 0
+rises [] u i j h k = absurd (omega arith)
+rises (c ∷ l) u zero zero h k = omega arith
+rises (c ∷ l) u zero (suc j) h k = omega (arith, rises_above c l j u (omega arith))
+rises (c ∷ l) u (suc i) zero h k = absurd (omega arith)
+rises (c ∷ l) u (suc i) (suc j) h k = rises l (ascending_rest c l u) i j (omega arith) (omega arith)
 
 -- ---- what is in a list
 
@@ -73,15 +120,25 @@ in_above b x (c ∷ l) u h =
     let k = ltb-true b c u'.0 in
     ⊎_elim (λ e. omega arith) (λ i. omega (arith, in_above c x l u'.1 i)) (in_cons x c l h)
 
--- so a number is looked for only up to the first that is not below it
-pub met_first : (x c : ℕ) (l : List ℕ) → x ≤ c → ascending_from c l ≡ true → eqb c x ≡ is_in x (c ∷ l)
+-- a number that no code is, is not in a list; and what the search in an ascending list tells
+not_in : (x : ℕ) (l : List ℕ) → ((k : ℕ) → k < length l → get_or l k 0 ≡ x → ⊥) → false ≡ is_in x l
 unfolding is_in
-met_first x c l h u = go (eqb c x) (is_in x l) refl
-  where
-    go : (t b : Bool) → is_in x l ≡ b → t ≡ pick t true (is_in x l)
-    go true b e = refl
-    go false true e = absurd (omega (arith, in_above c x l u e))
-    go false false e = sym e
+not_in x [] h = refl
+not_in x (c ∷ l) h = rw (ne_eqb c x (h 0 (omega arith))) (not_in x l (λ k i. h (suc k) (omega arith)))
+
+in_there : (x : ℕ) (l : List ℕ) (i : ℕ) → i < length l → get_or l i 0 ≡ x → is_in x l ≡ true
+in_there x [] i h e = absurd (omega arith)
+in_there x (c ∷ l) zero h e = rw e (in_first x l)
+in_there x (c ∷ l) (suc i) h e = in_rest x c l (in_there x l i (omega arith) e)
+
+pub searched_in : (l : List ℕ) (x : ℕ) (r : Result ℕ ℕ) → ascending l ≡ true → IsBinarySearchResult (λ y. nat_cmp y x) l r → is_ok r ≡ is_in x l
+searched_in l x (Ok i) u h = let found = searched l x (Ok i) h (rises l u) in sym (in_there x l i found.0 found.1)
+searched_in l x (Err i) u h =
+    let m = searched l x (Err i) h (rises l u) in
+    not_in x l (λ k n e. elim (cases_lt k i) [
+      | inl low ↦ omega (arith, m.1 k low)
+      | inr high ↦ omega (arith, m.2 k high n)
+    ])
 
 -- ---- parents
 
@@ -116,10 +173,6 @@ pub record Latest (m : ℕ) (all rest : List ℕ) (g : ℕ) : Type 0 where
   pub high : (x : ℕ) → is_in x all ≡ true → x % m ≡ 0 → (x ≤ g) ⊎ (is_in x rest ≡ true)
   pub low : (x : ℕ) → is_in x rest ≡ true → g ≤ x
   pub inside : (x : ℕ) → is_in x rest ≡ true → is_in x all ≡ true
-
--- none has come yet
-pub latest_none : (m : ℕ) (all : List ℕ) → Latest m all all 0
-latest_none m all = record { whole = zero-mod m; there = λ h. absurd (omega arith); high = λ x i z. inr i; low = λ x i. omega arith; inside = λ x i. i }
 
 module _ {m : ℕ} {all rest : List ℕ} {c g : ℕ} (x : Latest m all (c ∷ rest) g) (up : ascending_from c rest ≡ true) where
   -- a multiple comes, or another code
@@ -166,22 +219,12 @@ stands_parent {all} {rest} {c} {top} {group} x y up = go (ltb 0 (n_of c))
     go true = latest_judged x up (omega arith)
     go false = latest_judged y up (omega arith)
 
--- behind its first code a list ascends too
-pub ascending_rest : (c : ℕ) (l : List ℕ) → ascending_from c l ≡ true → ascending l ≡ true
-unfolding ascending_from
-ascending_rest c [] u = refl
-ascending_rest c (d ∷ l) u = (both_true (ltb c d) (ascending_from d l) u).1
-
 -- the codes of an ascending list have their parents if those that are still to come have
 pub record Parenting (list rest : List ℕ) (top group : ℕ) : Type 0 where
   pub judged : all_parented list rest ≡ all_parented list list
   pub up : ascending rest ≡ true
   pub groups : Latest 512 list rest group
   pub tops : Latest of_s list rest top
-
--- all are
-pub parenting_none : (list : List ℕ) → ascending list ≡ true → Parenting list list 0 0
-parenting_none list u = record { judged = refl; up = u; groups = latest_none 512 list; tops = latest_none of_s list }
 
 module _ {list rest : List ℕ} {c top group : ℕ} (x : Parenting list (c ∷ rest) top group) where
   parent : stands_under c top group ≡ has_parent list c

@@ -1,18 +1,36 @@
--- Inner: what the inner functions of the writer do to a buffer of 64 octets. A place counts the octets put, and 65 says that they
--- were too many. The octets are put head by head: a head is the code of an SPar(1) or an SPar(2), with something under it.
+-- Inner: what the inner functions of the writer check, and what they put on a sheet of at most 64 octets. The octets are put head by
+-- head: a head is the code of an SPar(1) or an SPar(2), with something under it.
 -- Assumes nothing.
-use Rattle.std.specs.Prelude.{ℕ, ◌+◌, ◌%◌, ◌≤◌, min, Bool, true, ltb, eqb, List, [], ◌∷◌, ◌++◌, ◌≡◌, length}
-use Rattle.std.proofs.lemmas.List.Edits.{sets}
+use Rattle.std.specs.Prelude.{ℕ, ◌+◌, ◌%◌, ◌≤◌, ◌<◌, Bool, true, ltb, eqb, List, [], ◌∷◌, ◌++◌, ◌≡◌, length, Result, Ok, Err}
 use Rattle.octets.specs.Places.{pick}
-use Rattle.tree.specs.Codes.{n_of, parent_of, of_f, of_s, of_t}
+use Rattle.tree.specs.Codes.{n_of, parent_of, of_f, of_s, of_t, field_base}
+use Rattle.tree.specs.Fields.{most_octets}
 use Rattle.meaning.specs.Written.{block_octets, run, from, positions, marked}
-use Rattle.meaning.specs.Writing.{is_empty}
+use Rattle.meaning.specs.Writing.{is_empty, refused, list_writing, write_message, unless_long, message_octets}
+use Rattle.writer.specs.Writer.{write_told}
+use Rattle.writer.specs.declared.MessageWriteRefusal.{MessageWriteRefusal}
+use Rattle.writer.specs.declared.TooLong.{TooLong}
 
--- the octets were put at a place; where they pass the buffer's end, what it holds does not matter
-pub record Puts (octets : List ℕ) (out₀ : List ℕ) (at₀ : ℕ) (out₁ : List ℕ) (at₁ : ℕ) : Type 0 where
-  pub at : at₁ ≡ min 65 (at₀ + length octets)
-  pub out : at₀ + length octets ≤ 64 → out₁ ≡ sets out₀ at₀ octets
-  pub size : length out₁ ≡ 64
+-- the number of a refusal
+abbrev pub number : MessageWriteRefusal → ℕ
+number e = (write_told (Err e)).no
+
+-- a list is refused, whatever is to be written with it
+abbrev pub ListRefused : List ℕ → MessageWriteRefusal → Type 0
+ListRefused list e = (kind revision : ℕ) (ns : List ℕ) → list_writing kind revision list ns ≡ refused (number e)
+
+-- a message is refused, whatever the room
+abbrev pub DraftRefused : ℕ → ℕ → List ℕ → List ℕ → MessageWriteRefusal → Type 0
+DraftRefused kind revision list ns e = (room : ℕ) → most_octets ≤ room → write_message kind revision list ns room ≡ refused (number e)
+
+-- a draft is of the message that was asked for, which is written unless it is too long
+pub record Drafts (kind revision : ℕ) (list ns : List ℕ) (kind₁ revision₁ : ℕ) (list₁ ns₁ : List ℕ) : Type 0 where
+  pub writes : (room : ℕ) → most_octets ≤ room → write_message kind revision list ns room ≡ unless_long (message_octets kind₁ revision₁ list₁ ns₁)
+
+-- the octets were put behind those that a sheet had; or they would have passed its end, and what it has then does not matter
+abbrev pub Puts : {A : Type 0} → List ℕ → List ℕ → List ℕ → Result A TooLong → Type 0
+Puts octets old new (Ok _) = new ≡ old ++ octets
+Puts octets old new (Err _) = most_octets < length (old ++ octets)
 
 -- a code needs no parent, or it is the last code before it with n = 0, or with t = n = 0
 abbrev pub stands_under : ℕ → ℕ → ℕ → Bool
@@ -46,3 +64,7 @@ heads_from lim (h ∷ l) = pick (ltb h lim) (heads_from lim l) (head_put h (run 
 abbrev pub field_put : ℕ → List ℕ → List ℕ
 field_put b l =
     block_octets 7 128 (positions 1 b (run (b + of_t) l)) ++ (block_octets 7 128 (positions of_s b (from (b + of_t) l)) ++ heads_from 0 (from (b + of_t) l))
+
+-- both fields, and NS
+abbrev pub fields_put : List ℕ → List ℕ → List ℕ
+fields_put list ns = field_put (field_base 1) (run (field_base 2) list) ++ (field_put (field_base 2) (from (field_base 2) list) ++ ns)

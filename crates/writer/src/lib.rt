@@ -1,40 +1,38 @@
 // The message writer (V.8 bis clause 8; RULES): a message of a type, a revision, a list of codes and NS, always in minimal form.
 #![tactic(auto)]
 
-ghost use Rattle.std.specs.Prelude.{◌≡◌, true, [], ◌∷◌, ◌++◌, ◌+◌, ◌-◌, ◌*◌, ◌%◌, ◌^◌, ◌≤◌, ◌<◌, length, get_or, set, drop};
+ghost use Rattle.std.specs.Prelude.{◌≡◌, true, [], ◌∷◌, ◌+◌, ◌*◌, ◌≤◌, ◌<◌, length, IfOk, IfErr};
+ghost use Rattle.octets.specs.Lay.{over};
 ghost use Rattle.tree.specs.Codes.{of_f, field_base};
-ghost use Rattle.tree.specs.Fields.{is_in, most_octets};
+ghost use Rattle.tree.specs.Fields.{most_octets};
+ghost use Rattle.tree.specs.Levels.{width_of, mark_of};
 ghost use Rattle.meaning.specs.Meaning.{shaped, all_shaped, ascending, all_parented};
-ghost use Rattle.meaning.specs.Written.{passed, skipped, carried, block_octets, run, from, positions, written};
+ghost use Rattle.meaning.specs.Written.{skipped, block_octets, run, from, positions, marked};
 ghost use Rattle.message.specs.Kinds.{known};
-ghost use Rattle.meaning.specs.Writing.{ends_there, ns_agrees, message_octets, unless_long, checked_writing, list_writing};
-ghost use Rattle.writer.specs.Writer.{Writes};
-ghost use Rattle.writer.specs.Inner.{stands_under, Puts, ends_par, lower_block, heads_from, field_put};
+ghost use Rattle.meaning.specs.Writing.{ends_there, ns_agrees, message_octets};
+ghost use Rattle.writer.specs.Inner.{stands_under, ListRefused, Drafts, DraftRefused, Puts, ends_par, lower_block, heads_from, field_put, fields_put};
 ghost use Rattle.meaning.specs.Inner.{Between};
 ghost use Rattle.writer.specs.Promises.{MessageWrites};
 
-use message::{ACK_1, is_known, ns_form};
+use message::{has_fields, is_known, ns_form};
 use octets::copy_front;
-use tree::{IDENTIFICATION, MOST_OCTETS, OF_F, OF_S, OF_T, STANDARD, is_fine, mark_last};
-
-// The place that says that there are too many octets.
-const TOO_MANY: usize = MOST_OCTETS + 1;
+use std::marker::Model;
+use tree::{IDENTIFICATION, Level, MOST_OCTETS, OF_F, OF_S, OF_T, STANDARD, is_fine, mark_last};
 
 // The code that announces NS, 1.0.0.7.
 const NON_STANDARD: u32 = IDENTIFICATION + 7;
 
-// The message writer's answer: the number of octets, or why there are none. BadLent: the output is under 64 octets.
-#[derive(Clone, Copy)]
-pub enum MessageWritten {
-    Octets(usize),
-    BadLent,
-    BadType,
-    BadCode,
-    NotAscending,
-    NoParent,
-    NotEmpty,
-    BadNs,
-    TooLong,
+// Why there is no message, by the rules' numbers. BadLent: the output is under 64 octets.
+#[derive(Clone, Copy, Debug, PartialEq, Eq)]
+pub enum MessageWriteRefusal {
+    BadLent = 1,
+    BadType = 3,
+    BadCode = 5,
+    NotAscending = 6,
+    NoParent = 7,
+    NotEmpty = 8,
+    BadNs = 9,
+    TooLong = 10,
 }
 
 // Whether a code has a possible shape.
@@ -61,44 +59,14 @@ fn is_shaped(code: u32) -> bool
 fn are_shaped(list: &[u32]) -> bool
     ensures { result ≡ all_shaped list.now }
 {
-    let mut i = 0;
-    while i < list.len() {
-        if !is_shaped(list[i]) {
-            return false;
-        }
-        i += 1;
-    }
-    true
+    list.iter().all(|code| is_shaped(*code))
 }
 
 // Whether a list is strictly ascending.
 fn is_ascending(list: &[u32]) -> bool
     ensures { result ≡ ascending list.now }
 {
-    let mut i = 1;
-    while i < list.len() {
-        if list[i] <= list[i - 1] {
-            return false;
-        }
-        i += 1;
-    }
-    true
-}
-
-// Whether a number is in an ascending list.
-fn contains(list: &[u32], code: u32) -> bool
-    requires { ascending list.now ≡ true }
-    ensures { result ≡ is_in code list.now }
-{
-    let mut i = 0;
-    while i < list.len() {
-        let next = list[i];
-        if code <= next {
-            return next == code;
-        }
-        i += 1;
-    }
-    false
+    list.is_sorted_by(|code, next| *code < *next)
 }
 
 // Whether a code needs no parent, or its parent is the last code before it with n = 0, group, or with t = n = 0, top.
@@ -129,11 +97,10 @@ fn are_parented(list: &[u32]) -> bool
     requires { ascending list.now ≡ true }
     ensures { result ≡ all_parented list.now list.now }
 {
+    // 0 is no code, so no code's parent is looked for there
     let mut top = 0u32;
     let mut group = 0u32;
-    let mut i = 0;
-    while i < list.len() {
-        let code = list[i];
+    for &code in list {
         if !stands_under(code, top, group) {
             return false;
         }
@@ -143,265 +110,294 @@ fn are_parented(list: &[u32]) -> bool
                 top = code;
             }
         }
-        i += 1;
     }
     true
 }
 
-// Puts an octet into the buffer, or says that there are too many.
-fn put_octet(out: &mut [u8], at: usize, octet: u8) -> usize
-    requires { (length out.old ≡ 64) × (at ≤ 65) }
-    ensures { Puts (octet ∷ []) out.old at out.new result }
+// The codes below a limit with which a list begins, and the others.
+fn cut(list: &[u32], limit: u32) -> (&[u32], &[u32])
+    ensures { (result.0.now ≡ run limit list.now) × (result.1.now ≡ from limit list.now) }
 {
-    if at < MOST_OCTETS {
-        out[at] = octet;
-        return at + 1;
-    }
-    TOO_MANY
-}
-
-// The octet at hand: where it goes, what it has so far, and the position below its first.
-#[derive(Clone, Copy)]
-struct Hand {
-    at: usize,
-    octet: u8,
-    above: u32,
-}
-
-// Passes octets of a block, count of them: the one at hand, and then such with nothing set.
-fn pass_octets(out: &mut [u8], start: Hand, count: u32, w: u32) -> Hand
-    requires { (length out.old ≡ 64) × (start.at ≤ 65) × (start.above + count * w < 4294967296) }
-    ensures { Puts (skipped count start.octet) out.old start.at out.new result.at × (result.octet ≡ carried count start.octet) × (result.above ≡ start.above + count * w) }
-{
-    let mut at = start.at;
-    let mut octet = start.octet;
-    let mut above = start.above;
-    let mut left = count;
-    while 0 < left {
-        at = put_octet(out, at, octet);
-        octet = 0;
-        above += w;
-        left -= 1;
-    }
-    Hand { at, octet, above }
-}
-
-// Puts the position q of a block with w positions to an octet, behind those that were put.
-fn put_position(out: &mut [u8], hand: Hand, q: u32, w: u32) -> Hand
-    requires { (length out.old ≡ 64) × (hand.at ≤ 65) × (hand.above < q) × (q ≤ 511) × (0 < w) × (w ≤ 7) × (hand.octet < 2 ^ (q - hand.above - 1)) }
-    ensures { Puts (skipped (passed w hand.above q) hand.octet) out.old hand.at out.new result.at × (result.above ≡ hand.above + passed w hand.above q * w) × (result.octet ≡ carried (passed w hand.above q) hand.octet + 2 ^ ((q - hand.above - 1) % w)) }
-{
-    let ahead = q - hand.above - 1;
-    // most positions stand in the octet at hand, and need no division
-    if ahead < w {
-        return Hand {
-            at: hand.at,
-            octet: hand.octet + (1u8 << ahead),
-            above: hand.above,
-        };
-    }
-    let next = pass_octets(out, hand, ahead / w, w);
-    Hand {
-        at: next.at,
-        octet: next.octet + (1u8 << (ahead % w)),
-        above: next.above,
-    }
-}
-
-// Puts the minimal block of those codes of a list that stand a multiple of a step above a base, w positions to an octet, with
-// the bit behind those as the delimiter in its last.
-fn put_block(list: &[u32], base: u32, step: u32, w: u32, out: &mut [u8], start: usize) -> usize
-    requires { Between base (base + 512 * step) list.now × (0 < step) × (base + 512 * step < 4294967296) × (6 ≤ w) × (w ≤ 7) × (length out.old ≡ 64) × (start ≤ 65) }
-    ensures { Puts (block_octets w (2 ^ w) (positions step base list.now)) out.old start out.new result }
-{
-    let mut hand = Hand {
-        at: start,
-        octet: 0,
-        above: 0,
-    };
-    let mut i = 0;
-    while i < list.len() {
-        let apart = list[i] - base;
-        i += 1;
-        if apart % step == 0 {
-            hand = put_position(out, hand, apart / step, w);
-        }
-    }
-    put_octet(out, hand.at, hand.octet + (1u8 << w))
-}
-
-// How many codes below a limit a list begins with.
-fn run_length(list: &[u32], limit: u32) -> usize
-    ensures { (result ≡ length (run limit list.now)) × (result ≤ length list.now) }
-{
-    let mut i = 0;
-    while i < list.len() {
-        if limit <= list[i] {
-            return i;
-        }
-        i += 1;
-    }
-    i
-}
-
-// Puts SPar(2) of the codes behind a head's block, if the head is an SPar(1) and there is any.
-fn put_lower(list: &[u32], head: u32, out: &mut [u8], start: usize) -> usize
-    requires { Between head (field_base 3) list.now × (head < field_base 3) × (length out.old ≡ 64) × (start ≤ 65) }
-    ensures { Puts (lower_block head list.now) out.old start out.new result }
-{
-    if head % OF_S != 0 {
-        return start;
-    }
-    let n = run_length(list, head + OF_S);
-    if n == 0 {
-        return start;
-    }
-    put_block(&list[0..n], head, OF_T, 6, out, start)
+    list.split_at(list.iter().take_while(|code| **code < limit).count())
 }
 
 // Whether no SPar(2) of the same SPar(1) follows.
-fn ends_par(list: &[u32], i: usize) -> bool
-    ensures { result ≡ ends_par (drop i list.now) }
+fn ends_par(list: &[u32]) -> bool
+    ensures { result ≡ ends_par list.now }
 {
-    if list.len() <= i {
-        return true;
+    match list.first() {
+        Some(code) => *code % OF_S == 0,
+        None => true,
     }
-    list[i] % OF_S == 0
-}
-
-// Puts the Par(2) blocks of a field's codes, from its first SPar(1) on: head by head, each a code with something under it.
-fn put_pars(list: &[u32], out: &mut [u8], start: usize) -> usize
-    requires { Between 0 (field_base 3) list.now × (length out.old ≡ 64) × (start ≤ 65) }
-    ensures { Puts (heads_from 0 list.now) out.old start out.new result }
-{
-    let mut at = start;
-    let mut i = 0;
-    while i < list.len() {
-        let head = list[i];
-        let rest = &list[i + 1..];
-        let n = run_length(rest, head + OF_T);
-        at = put_block(&rest[0..n], head, 1, 6, out, at);
-        i = i + 1 + n;
-        at = put_lower(&list[i..], head, out, at);
-        if ends_par(list, i) {
-            // lent as so many octets, the length of the buffer does not have to be handed down to here
-            mark_last(&mut out[0..MOST_OCTETS], at);
-        }
-    }
-    at
-}
-
-// Puts the field of the codes above a base.
-fn put_field(list: &[u32], base: u32, out: &mut [u8], start: usize) -> usize
-    requires { Between base (base + of_f) list.now × (base ≤ field_base 2) × (length out.old ≡ 64) × (start ≤ 65) }
-    ensures { Puts (field_put base list.now) out.old start out.new result }
-{
-    let n = run_length(list, base + OF_T);
-    let rest = &list[n..];
-    let first = put_block(&list[0..n], base, 1, 7, out, start);
-    let second = put_block(rest, base, OF_S, 7, out, first);
-    put_pars(rest, out, second)
-}
-
-// Puts octets as they are.
-fn put_run(run: &[u8], out: &mut [u8], start: usize) -> usize
-    requires { (length out.old ≡ 64) × (start ≤ 65) }
-    ensures { Puts run.now out.old start out.new result }
-{
-    let mut at = start;
-    let mut i = 0;
-    while i < run.len() {
-        at = put_octet(out, at, run[i]);
-        i += 1;
-    }
-    at
-}
-
-// Puts I, S and NS.
-fn put_fields(list: &[u32], ns: &[u8], out: &mut [u8], start: usize) -> usize
-    requires { (all_shaped list.now ≡ true) × (ascending list.now ≡ true) × (all_parented list.now list.now ≡ true) × (length out.old ≡ 64) × (start ≤ 65) }
-    ensures { Puts (written (field_base 1) (run (field_base 2) list.now) ++ (written (field_base 2) (from (field_base 2) list.now) ++ ns.now)) out.old start out.new result }
-{
-    let n = run_length(list, STANDARD);
-    let first = put_field(&list[0..n], IDENTIFICATION, out, start);
-    let second = put_field(&list[n..], STANDARD, out, first);
-    put_run(ns, out, second)
-}
-
-// Whether NS is well-formed and announced by code 1.0.0.7, or there is neither.
-fn ns_agrees(list: &[u32], ns: &[u8]) -> bool
-    requires { ascending list.now ≡ true }
-    ensures { result ≡ ns_agrees list.now ns.now }
-{
-    let announced = contains(list, NON_STANDARD);
-    if ns.len() == 0 {
-        return !announced;
-    }
-    if is_fine(ns_form(ns, 0)) {
-        return announced;
-    }
-    false
-}
-
-// The message, where its type, its list and its NS are right, unless it is too long.
-fn put_message(kind: u8, revision: u8, list: &[u32], ns: &[u8], out: &mut [u8]) -> MessageWritten
-    requires { (revision ≤ 15) × (known kind ≡ true) × (all_shaped list.now ≡ true) × (ascending list.now ≡ true) × (all_parented list.now list.now ≡ true) × (ends_there kind list.now ns.now ≡ true) × (most_octets ≤ length out.old) }
-    ensures { Writes (unless_long (message_octets kind revision list.now ns.now)) out.old result out.new }
-{
-    let mut octets = [0u8; 64];
-    let mut end = put_octet(&mut octets, 0, revision * 16 + kind);
-    if kind < ACK_1 {
-        end = put_fields(list, ns, &mut octets, end);
-    }
-    if MOST_OCTETS < end {
-        return MessageWritten::TooLong;
-    }
-    copy_front(&octets, end, out);
-    MessageWritten::Octets(end)
 }
 
 // Whether a message of a type may have this list and NS: an ACK or a NAK has neither.
 fn ends_there(kind: u8, list: &[u32], ns: &[u8]) -> bool
     ensures { result ≡ ends_there kind list.now ns.now }
 {
-    if kind < ACK_1 {
-        return true;
-    }
-    if list.len() != 0 {
-        return false;
-    }
-    ns.len() == 0
+    has_fields(kind) || (list.len() == 0 && ns.len() == 0)
 }
 
-// Refusals 8 to 10, where the type, the revision and the list are right.
-fn write_checked(kind: u8, revision: u8, list: &[u32], ns: &[u8], out: &mut [u8]) -> MessageWritten
-    requires { (revision ≤ 15) × (known kind ≡ true) × (all_shaped list.now ≡ true) × (ascending list.now ≡ true) × (all_parented list.now list.now ≡ true) × (most_octets ≤ length out.old) }
-    ensures { Writes (checked_writing kind revision list.now ns.now) out.old result out.new }
-{
-    if !ends_there(kind, list, ns) {
-        return MessageWritten::NotEmpty;
-    }
-    if !ns_agrees(list, ns) {
-        return MessageWritten::BadNs;
-    }
-    put_message(kind, revision, list, ns, out)
+// A list that is a meaning: codes of possible shapes, strictly ascending, each with its parents.
+#[derive(Clone, Copy)]
+struct Codes<'a> {
+    list: &'a [u32],
+    ghost shapes: { all_shaped list.now ≡ true },
+    ghost up: { ascending list.now ≡ true },
+    ghost parents: { all_parented list.now list.now ≡ true },
 }
 
-// Refusals 5 to 7, and then the others.
-fn write_list(kind: u8, revision: u8, list: &[u32], ns: &[u8], out: &mut [u8]) -> MessageWritten
-    requires { (revision ≤ 15) × (known kind ≡ true) × (most_octets ≤ length out.old) }
-    ensures { Writes (list_writing kind revision list.now ns.now) out.old result out.new }
-{
-    if !are_shaped(list) {
-        return MessageWritten::BadCode;
+impl<'a> Codes<'a> {
+    // Refusals 5 to 7.
+    fn checked(list: &'a [u32]) -> Result<Codes<'a>, MessageWriteRefusal>
+        ensures same { IfOk result (λ codes. codes.list.now ≡ list.now) }
+        ensures refused { IfErr result (ListRefused list.now) }
+    {
+        if !are_shaped(list) {
+            return Err(MessageWriteRefusal::BadCode);
+        }
+        if !is_ascending(list) {
+            return Err(MessageWriteRefusal::NotAscending);
+        }
+        if !are_parented(list) {
+            return Err(MessageWriteRefusal::NoParent);
+        }
+        Ok(Codes { list })
     }
-    if !is_ascending(list) {
-        return MessageWritten::NotAscending;
+
+    // Whether NS is well-formed and announced by code 1.0.0.7, or there is neither.
+    fn ns_agrees(self, ns: &[u8]) -> bool
+        ensures { result ≡ ns_agrees self.entry.list.now ns.now }
+    {
+        let announced = self.list.binary_search(&NON_STANDARD).is_ok();
+        if ns.len() == 0 {
+            return !announced;
+        }
+        if is_fine(ns_form(ns, 0)) {
+            return announced;
+        }
+        false
     }
-    if !are_parented(list) {
-        return MessageWritten::NoParent;
+}
+
+// A message that may be written, unless it is too long.
+#[derive(Clone, Copy)]
+struct Draft<'a> {
+    // a type's number, since octet 1 has it as it is
+    kind: u8,
+    revision: u8,
+    codes: Codes<'a>,
+    ns: &'a [u8],
+    ghost is_type: { known kind ≡ true },
+    ghost low: { revision ≤ 15 },
+}
+
+impl<'a> Draft<'a> {
+    // Refusals 3 to 9.
+    fn checked(
+        kind: u8,
+        revision: u8,
+        list: &'a [u32],
+        ns: &'a [u8],
+    ) -> Result<Draft<'a>, MessageWriteRefusal>
+        ensures same { IfOk result (λ d. Drafts kind revision list.now ns.now d.kind d.revision d.codes.list.now d.ns.now) }
+        ensures refused { IfErr result (DraftRefused kind revision list.now ns.now) }
+    {
+        if !is_known(kind) {
+            return Err(MessageWriteRefusal::BadType);
+        }
+        if 15 < revision {
+            return Err(MessageWriteRefusal::BadType);
+        }
+        let codes = Codes::checked(list)?;
+        if !ends_there(kind, list, ns) {
+            return Err(MessageWriteRefusal::NotEmpty);
+        }
+        if !codes.ns_agrees(ns) {
+            return Err(MessageWriteRefusal::BadNs);
+        }
+        Ok(Draft {
+            kind,
+            revision,
+            codes,
+            ns,
+        })
     }
-    write_checked(kind, revision, list, ns, out)
+}
+
+// A sheet takes no octet more.
+#[derive(Clone, Copy)]
+struct TooLong;
+
+// The octets of a message, put one behind the other: at most 64, in an array of that size, since there is no heap.
+#[derive(Drop)]
+struct Sheet {
+    octets: [u8; 64],
+    size: usize,
+}
+
+impl Model for Sheet {
+    ghost use Rattle.std.specs.Prelude.{ℕ, List, take, ◌≤◌};
+
+    ghost Value = { List ℕ };
+
+    ghost view = { λ s. take s.size s.octets };
+
+    ghost invariant = { λ s. s.size ≤ 64 };
+}
+
+impl Sheet {
+    fn new() -> Sheet
+        ensures { result ≡ [] }
+    {
+        Sheet {
+            octets: [0; 64],
+            size: 0,
+        }
+    }
+
+    fn push(&mut self, octet: u8) -> Result<(), TooLong>
+        ensures { Puts (octet ∷ []) self.old self.new result }
+    {
+        let size = self.size;
+        if MOST_OCTETS <= size {
+            return Err(TooLong);
+        }
+        self.octets[size] = octet;
+        self.size = size + 1;
+        Ok(())
+    }
+
+    // Sets bit 8 of the last octet.
+    fn mark_last(&mut self)
+        ensures { self.new ≡ marked self.old }
+    {
+        mark_last(&mut self.octets, self.size);
+    }
+
+    // Copies the octets to the front of an output, and says how many they are.
+    fn send(&self, out: &mut [u8]) -> usize
+        ensures count { (result ≡ length self.now) × (result ≤ most_octets) }
+        ensures front { out.new ≡ over self.now out.old }
+    {
+        copy_front(&self.octets, self.size, out);
+        self.size
+    }
+
+    // Passes octets of a block, count of them: the one at hand, and then such with nothing set.
+    fn pass_octets(&mut self, octet: u8, count: u32) -> Result<(), TooLong>
+        ensures { Puts (skipped count octet) self.old self.new result }
+    {
+        let mut next = octet;
+        for _turn in 0..count {
+            self.push(next)?;
+            next = 0;
+        }
+        Ok(())
+    }
+
+    // Puts the minimal block of those codes of a list that stand a multiple of a step above a base.
+    fn put_block(&mut self, list: &[u32], base: u32, step: u32, level: Level) -> Result<(), TooLong>
+        requires { Between base (base + 512 * step) list.now × (0 < step) × (base + 512 * step < 4294967296) }
+        ensures { Puts (block_octets (width_of level) (mark_of level) (positions step base list.now)) self.old self.new result }
+    {
+        let w = level.width();
+        // the octet at hand: what it has so far, and the position below its first
+        let mut octet = 0u8;
+        let mut above = 0u32;
+        for &code in list {
+            let apart = code - base;
+            if apart % step != 0 {
+                continue;
+            }
+            let mut ahead = apart / step - above - 1;
+            // most positions stand in the octet at hand, and need no division
+            if w <= ahead {
+                let count = ahead / w;
+                self.pass_octets(octet, count)?;
+                octet = 0;
+                above += count * w;
+                ahead -= count * w;
+            }
+            octet += 1u8 << ahead;
+        }
+        self.push(octet + level.mark())
+    }
+
+    // Puts SPar(2) of the codes behind a head's block, if the head is an SPar(1) and there is any.
+    fn put_lower(&mut self, list: &[u32], head: u32) -> Result<(), TooLong>
+        requires { Between head (field_base 3) list.now × (head < field_base 3) }
+        ensures { Puts (lower_block head list.now) self.old self.new result }
+    {
+        if head % OF_S != 0 {
+            return Ok(());
+        }
+        let (under, _) = cut(list, head + OF_S);
+        if under.len() == 0 {
+            return Ok(());
+        }
+        self.put_block(under, head, OF_T, Level::Low)
+    }
+
+    // Puts the Par(2) blocks of a field's codes, from its first SPar(1) on: head by head, each a code with something under it.
+    fn put_pars(&mut self, list: &[u32]) -> Result<(), TooLong>
+        requires { Between 0 (field_base 3) list.now }
+        ensures { Puts (heads_from 0 list.now) self.old self.new result }
+    {
+        let mut rest = list;
+        while let Some((head, behind)) = rest.split_first() {
+            let (under, next) = cut(behind, *head + OF_T);
+            self.put_block(under, *head, 1, Level::Low)?;
+            self.put_lower(next, *head)?;
+            if ends_par(next) {
+                self.mark_last();
+            }
+            rest = next;
+        }
+        Ok(())
+    }
+
+    // Puts the field of the codes above a base.
+    fn put_field(&mut self, list: &[u32], base: u32) -> Result<(), TooLong>
+        requires { Between base (base + of_f) list.now × (base ≤ field_base 2) }
+        ensures { Puts (field_put base list.now) self.old self.new result }
+    {
+        let (first, rest) = cut(list, base + OF_T);
+        self.put_block(first, base, 1, Level::Top)?;
+        self.put_block(rest, base, OF_S, Level::Top)?;
+        self.put_pars(rest)
+    }
+
+    // Puts octets as they are.
+    fn put_run(&mut self, run: &[u8]) -> Result<(), TooLong>
+        ensures { Puts run.now self.old self.new result }
+    {
+        for &octet in run {
+            self.push(octet)?;
+        }
+        Ok(())
+    }
+
+    // Puts I, S and NS.
+    fn put_fields(&mut self, codes: Codes, ns: &[u8]) -> Result<(), TooLong>
+        ensures { Puts (fields_put codes.entry.list.now ns.now) self.old self.new result }
+    {
+        let (first, second) = cut(codes.list, STANDARD);
+        self.put_field(first, IDENTIFICATION)?;
+        self.put_field(second, STANDARD)?;
+        self.put_run(ns)
+    }
+
+    // Puts octet 1, and the fields where the type has any.
+    fn put_message(&mut self, m: Draft) -> Result<(), TooLong>
+        ensures { Puts (message_octets m.entry.kind m.entry.revision m.entry.codes.list.now m.entry.ns.now) self.old self.new result }
+    {
+        self.push(m.revision * 16 + m.kind)?;
+        if has_fields(m.kind) {
+            return self.put_fields(m.codes, m.ns);
+        }
+        Ok(())
+    }
 }
 
 // The message writer: the message of a type, a revision, an ascending list of codes with their parents, and NS, in minimal form.
@@ -411,17 +407,16 @@ pub fn write_message(
     list: &[u32],
     ns: &[u8],
     out: &mut [u8],
-) -> MessageWritten
+) -> Result<usize, MessageWriteRefusal>
     ensures { MessageWrites kind revision list.now ns.now out.old result out.new }
 {
     if out.len() < MOST_OCTETS {
-        return MessageWritten::BadLent;
+        return Err(MessageWriteRefusal::BadLent);
     }
-    if !is_known(kind) {
-        return MessageWritten::BadType;
+    let draft = Draft::checked(kind, revision, list, ns)?;
+    let mut sheet = Sheet::new();
+    match sheet.put_message(draft) {
+        Ok(()) => Ok(sheet.send(out)),
+        Err(TooLong) => Err(MessageWriteRefusal::TooLong),
     }
-    if 15 < revision {
-        return MessageWritten::BadType;
-    }
-    write_list(kind, revision, list, ns, out)
 }

@@ -1,30 +1,23 @@
--- `choice::are_good_wishes` meets its contract. The loop's invariant (`Checks`): the records from the place on decide. The measure is how many may be left.
+-- `choice::are_good_wishes` meets its contract: record by record.
 -- Assumes nothing.
-use mathlib.Core.Path.{refl}
-use native.Mathlib.Omega.{arith}
-use Rattle.choice.proofs.Records.{one_too_many, bad_decides, good_passes, all_good}
+use mathlib.Core.Path.{sym, ◌∙◌}
+use Rattle.choice.specs.Inner.{found_of, wish_in}
+use Rattle.choice.proofs.Records.{first_good, none_good}
 use Rattle.choice.proofs.are_good_wishes.Goals as goal
 
-pub loop-at-init : goal.loop-at-init
-loop-at-init c = record { within = omega arith; same = refl }
+pub returns-then-not-is_good_record : goal.returns-then-not-is_good_record
+returns-then-not-is_good_record c =
+    let i = c.loop-wish.invariant in
+    let g = first_good (wish_in c.args.names.now.bits) i.0 _ (found_of c.in-Some.wish) _ (sym i.1 ∙ c.in-Some.ensures.steps) in
+    sym (rw (sym c.is_good_record.ensures ∙ c.if-not-is_good_record.true) at g.2) ∙ i.2
 
-pub returns-then-left-eq0 : goal.returns-then-left-eq0
-returns-then-left-eq0 c = one_too_many _ _ _ _ c.loop-at.invariant c.loop-at-test.true c.if-left-eq0.true
-
-pub good_record_end-next-requires : goal.good_record_end-next-requires
-good_record_end-next-requires c = (c.loop-at-test.true, c.requires)
-
-pub returns-then-next-eq0 : goal.returns-then-next-eq0
-returns-then-next-eq0 c = bad_decides _ _ _ _ _ c.loop-at.invariant (omega arith) c.good_record_end-next.ensures c.if-next-eq0.true
-
-pub overflow_sub-left : goal.overflow_sub-left
-overflow_sub-left c = omega arith
-
-pub loop-at-smaller : goal.loop-at-smaller
-loop-at-smaller c = omega arith
-
-pub loop-at-preserved : goal.loop-at-preserved
-loop-at-preserved c = good_passes _ _ _ _ _ c.loop-at.invariant (omega arith) c.good_record_end-next.ensures c.if-next-eq0.false
+pub loop-wish-preserved : goal.loop-wish-preserved
+loop-wish-preserved c =
+    let i = c.loop-wish.invariant in
+    let g = first_good (wish_in c.args.names.now.bits) i.0 _ (found_of c.in-Some.wish) _ (sym i.1 ∙ c.in-Some.ensures.steps) in
+    (g.0, g.1, sym (rw (sym c.is_good_record.ensures ∙ c.if-not-is_good_record.false) at g.2) ∙ i.2)
 
 pub returns : goal.returns
-returns c = all_good _ _ _ _ c.loop-at.invariant c.loop-at-test.false
+returns c =
+    let i = c.loop-wish.invariant in
+    c.is_empty.ensures ∙ sym (none_good (wish_in c.args.names.now.bits) i.0 c.loop-wish.behind.now (sym i.1 ∙ c.in-None.ensures.steps.0)) ∙ i.2

@@ -2,13 +2,10 @@
 -- Assumes nothing.
 use mathlib.Core.Path.{refl}
 use Rattle.octets.specs.Bits.{AreOctets}
-use Rattle.demands.proofs.Trips.{framing_refused, framing_read}
+use Rattle.demands.proofs.Trips.{passed_on, framing_read}
 use Rattle.demands.proofs.framed_back.Goals as goal
-
-pub returns-in_default : goal.returns-in_default
-returns-in_default c = framing_refused _ _ _ _ _ c.write_frame-written.ensures (λ n e. c.in_default.not-Bits n e) _
 
 pub returns : goal.returns
 returns c =
     let o : AreOctets c.args.message.now = λ i l. (c.type_inv.message i).fits in
-    framing_read _ _ _ _ _ c.write_frame-written.ensures o refl c.in-Bits.count c.in-Bits.is _ _ _ c.read_back.ensures
+    framing_read _ _ _ _ _ c.write_frame-written.ensures o refl c.in_ok-count.count (passed_on _ _ c.in_ok-count.ensures.cases) _ _ _ c.read_back.ensures

@@ -2,19 +2,18 @@
 -- Assumes nothing.
 use mathlib.Core.Path.{◌≡◌, sym, ap, ◌∙◌}
 use mathlib.Core.List.{[]}
-use native.Mathlib.Omega.{arith}
 use lib.ListN.{drop, drop_of_length-le}
 use Rattle.fcs.specs.Register.{register}
 use Rattle.fcs.proofs.Registers.{register_next, fcs-register}
 use Rattle.fcs.proofs.fcs_of.Goals as goal
 
-pub loop-i-preserved : goal.loop-i-preserved
-loop-i-preserved c =
-    (omega arith, omega (arith, c.octet_into-register.type_inv), rw c.octet_into-register.ensures (register_next _ c.loop-i.i c.loop-i.register (omega arith) ∙ c.loop-i.invariant.2))
+pub loop-octet-preserved : goal.loop-octet-preserved
+loop-octet-preserved c =
+    rw c.octet_into-register.ensures (register_next _ c.loop-octet.octet-index c.loop-octet.register c.loop-octet-test.true ∙ c.loop-octet.invariant)
 
 pub returns : goal.returns
 unfolding register
 returns c =
     let run = c.args.run.now in
-    let e : drop c.loop-i.i run ≡ [] = drop_of_length-le run {i = c.loop-i.i} (omega arith) in
-    rw (sym (ap (register c.loop-i.register) e) ∙ c.loop-i.invariant.2) (fcs-register run)
+    let e : drop c.loop-octet.octet-index run ≡ [] = drop_of_length-le run {i = c.loop-octet.octet-index} c.loop-octet-test.false in
+    rw (sym (ap (register c.loop-octet.register) e) ∙ c.loop-octet.invariant) (fcs-register run)

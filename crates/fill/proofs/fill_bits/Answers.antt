@@ -1,28 +1,39 @@
--- `fill::fill_bits` meets its contract: a list without room stays as it is.
+-- `fill::fill_bits` meets its contract. The loop's invariant (`BitsGoing`): the codes of all bits but those left are stored. The measure is the bits left, as a number.
 -- Assumes nothing.
-use mathlib.Core.Path.{◌≡◌, ap, sym, ◌∙◌}
-use lib.ListN.{length}
-use lib.Seq.{sets, length-sets}
-use Rattle.tree.specs.Block.{set_bits}
-use Rattle.tree.proofs.Filling.{sets_out}
-use Rattle.fill.proofs.Stored.{stores_numbers}
+use native.Mathlib.Omega.{arith}
+use Rattle.fill.proofs.Rows.{codes_stepped, bits_start, bits_end, bits_reach, bits_less, bits_room, bits_turn}
+use Rattle.fill.proofs.Stored.{fills_one}
 use Rattle.fill.proofs.fill_bits.Goals as goal
-use Rattle.fill.proofs.fill_bits.Goals.{then-n-list, else-n-list}
 
-pub returns-then-octets-eq0 : goal.returns-then-octets-eq0
-returns-then-octets-eq0 c =
-    let e = c.fill_numbers.ensures in
-    stores_numbers e.0 e.1 c.if-octets-eq0.true
+pub loop-bits-init : goal.loop-bits-init
+loop-bits-init g c = bits_start codes_stepped _ _ c.requires.0
 
-pub shape_of-list : goal.shape_of-list
-shape_of-list c =
-    let stored : let a = c.args in c.if-n-list.list ≡ sets a.list.now a.n (set_bits 7 a.above a.octet) = let a = c.args in
-    elim c.if-n-list.branch [ then-n-list w ↦ w.list-is ∙ w.fill_numbers-then-n-list.ensures.1 | else-n-list w ↦ w.list-is ∙ sym (sets_out _ _ (set_bits 7 a.above a.octet) w.if-n-list.false) ] in
-    ap length stored ∙ simp length-sets
+pub overflow_shr-bits : goal.overflow_shr-bits
+overflow_shr-bits g c = omega (arith, bits_reach codes_stepped c.loop-bits.invariant c.loop-bits-test.true)
+
+pub overflow_add-code : goal.overflow_add-code
+overflow_add-code g c = omega (arith, bits_reach codes_stepped c.loop-bits.invariant c.loop-bits-test.true)
+
+pub overflow_add-code-in-loop-bits : goal.overflow_add-code-in-loop-bits
+overflow_add-code-in-loop-bits g c = omega (arith, bits_reach codes_stepped c.loop-bits.invariant c.loop-bits-test.true)
+
+pub store-requires : goal.store-requires
+store-requires g c = omega (arith, bits_room codes_stepped c.loop-bits.invariant c.loop-bits-test.true c.requires.2)
+
+pub overflow_add-count : goal.overflow_add-count
+overflow_add-count g c = omega (arith, bits_room codes_stepped c.loop-bits.invariant c.loop-bits-test.true c.requires.2)
+
+pub loop-bits-smaller : goal.loop-bits-smaller
+loop-bits-smaller g c =
+    bits_less codes_stepped c.loop-bits.invariant c.loop-bits-test.true
+
+pub loop-bits-preserved : goal.loop-bits-preserved
+loop-bits-preserved g c =
+    bits_turn
+    codes_stepped
+    c.loop-bits.invariant
+    c.loop-bits-test.true
+    (fills_one c.store.ensures)
 
 pub returns : goal.returns
-returns c =
-    let stored : let a = c.args in c.if-n-list.list ≡ sets a.list.now a.n (set_bits 7 a.above a.octet) = let a = c.args in
-    elim c.if-n-list.branch [ then-n-list w ↦ w.list-is ∙ w.fill_numbers-then-n-list.ensures.1 | else-n-list w ↦ w.list-is ∙ sym (sets_out _ _ (set_bits 7 a.above a.octet) w.if-n-list.false) ] in
-    let e = c.fill_fours.ensures in
-    record { count = e.0; list = stored; octets = e.1 }
+returns g c = let f = bits_end codes_stepped c.loop-bits.invariant c.loop-bits-test.false in (f.count, f.list)

@@ -1,5 +1,5 @@
 -- `frame::five_starts` meets its contract, which says what it computes. Assumes nothing.
-use Rattle.frame.specs.Quill.{five_starts}
+use Rattle.frame.specs.Zeros.{five_starts}
 use Rattle.frame.proofs.five_starts.Goals as goal
 
 pub returns : goal.returns

@@ -1,20 +1,21 @@
--- `octets::bit_at` meets its contract: a place whose octet is one of the run has that bit of the octet (`bit_in`), and any other the end (`bit_end`).
+-- `octets::bit_at` meets its contract: a place whose octet is one of the run has that bit of the octet (`bit_in`), and any other none (`bit_end`).
 -- Assumes nothing.
 use mathlib.Core.Path.{sym, ap, ◌∙◌}
-use borrow.Author.Tests.{eq-eqb, ne_eqb}
-use Rattle.octets.specs.Places.{bit_of}
+use borrow.Author.Tests.{ltb-true, ltb-false}
+use Rattle.std.specs.Prelude.{Some, ◌/◌, ◌^◌, ◌%◌}
+use Rattle.std.proofs.lemmas.Grind.{get_or_default_zero}
+use Rattle.octets.specs.Bits.{odd}
 use Rattle.octets.proofs.Laws.{bit_in, bit_end}
 use Rattle.octets.proofs.bit_at.Goals as goal
 
-pub returns-then-run-i-eq1 : goal.returns-then-run-i-eq1
-returns-then-run-i-eq1 c =
+pub returns-in_err-octet : goal.returns-in_err-octet
+returns-in_err-octet c =
     let a = c.args in
-    sym (bit_in a.run.now a.at c.if-i-run.true ∙ ap bit_of (eq-eqb _ _ c.if-run-i-eq1.true))
-
-pub returns-then-i-run : goal.returns-then-i-run
-returns-then-i-run c =
-    let a = c.args in
-    sym (bit_in a.run.now a.at c.if-i-run.true ∙ ap bit_of (ne_eqb _ _ c.if-run-i-eq1.false))
+    c.from_residual.ensures ∙ sym (bit_end a.run.now a.at (ltb-false _ _ (sym c.in_err-octet.ensures.lookup.0)))
 
 pub returns : goal.returns
-returns c = sym (bit_end c.args.run.now c.args.at c.if-i-run.false)
+returns c =
+    let a = c.args in
+    let h = c.in_ok-octet.ensures.lookup in
+    let l = ltb-true _ _ (sym h.0) in
+    ap (λ x. Some (odd (x / 2 ^ (a.at % 8)))) (h.1 ∙ get_or_default_zero a.run.now (a.at / 8) _ l) ∙ sym (bit_in a.run.now a.at l)

@@ -1,7 +1,11 @@
--- `strike::is_kept` meets its contract, by the law of a single position.
+-- `strike::is_kept` meets its contract: there are 32 names at most.
 -- Assumes nothing.
-use Rattle.strike.proofs.Sifting.{place_named}
+use Prim.Native.Nat.{◌-◌}
+use mathlib.Core.Path.{◌∙◌}
+use borrow.Author.Rules.{rules}
+use Rattle.strike.proofs.Sifting.{shifted}
 use Rattle.strike.proofs.is_kept.Goals as goal
 
-pub returns : goal.returns
-returns c = place_named c.args.places c.args.q c.names_above.result c.if-places.false c.names_above.ensures
+pub returns-in-Some : goal.returns-in-Some
+returns-in-Some c =
+    rw (c.in-Some.is, c.unwrap_or.ensures ∙ shifted c.in-Some.bits (c.args.q - 1) c.checked_shr.result (search rules) c.checked_shr.ensures)

@@ -15,21 +15,21 @@ returns-then-out-lt-MOST_OCTETS c =
     let a = c.args in
     rewrites_small a.keep a.field a.s.now a.at a.out.now c.if-out-lt-MOST_OCTETS.true
 
-pub returns-then-field_end-eq0 : goal.returns-then-field_end-eq0
-returns-then-field_end-eq0 c =
+pub returns-in_err-field_end : goal.returns-in_err-field_end
+returns-in_err-field_end c =
     let a = c.args in
-    rewrites_bad a.keep a.field a.s.now a.at a.out.now c.if-out-lt-MOST_OCTETS.false (end_none a.s.now a.at c.field_end.ensures c.if-field_end-eq0.true)
+    rw c.from_residual.ensures (rewrites_bad a.keep a.field a.s.now a.at a.out.now c.if-out-lt-MOST_OCTETS.false (end_none a.s.now a.at c.in_err-field_end.ensures))
 
 pub put_field-end-requires : goal.put_field-end-requires
 put_field-end-requires c =
     let a = c.args in
     let octets : AreOctets a.s.now = λ i h. search rules in
-    let fine : is_fine (form_in a.s.now a.at) ≡ true = (end_some a.s.now a.at c.field_end.ensures c.if-field_end-eq0.false).0 in
+    let fine : is_fine (form_in a.s.now a.at) ≡ true = (end_some a.s.now a.at c.in_ok-field_end.ensures).0 in
     field_room a.keep a.field a.s.now a.at a.out.now c.if-out-lt-MOST_OCTETS.false octets fine
 
 pub returns : goal.returns
 returns c =
     let a = c.args in
     let octets : AreOctets a.s.now = λ i h. search rules in
-    let fine : is_fine (form_in a.s.now a.at) ≡ true = (end_some a.s.now a.at c.field_end.ensures c.if-field_end-eq0.false).0 in
+    let fine : is_fine (form_in a.s.now a.at) ≡ true = (end_some a.s.now a.at c.in_ok-field_end.ensures).0 in
     rewrites_fine a.keep a.field a.s.now a.at a.out.now c.if-out-lt-MOST_OCTETS.false octets fine _ _ _ c.put_field-end.ensures

@@ -2,7 +2,6 @@
 -- Assumes nothing.
 use Prim.Native.Nat.{◌+◌, ◌%◌}
 use mathlib.Core.Path.{refl, sym, ap, ◌∙◌}
-use native.Mathlib.Omega.{arith}
 use borrow.Author.Rules.{rules}
 use lib.Count.{ones as ones-of}
 use lib.ListN.{get_or}
@@ -10,12 +9,6 @@ use Rattle.tree.specs.Block.{announced}
 use Rattle.tree.specs.Codes.{subs_behind}
 use Rattle.tree.proofs.Forms.{announced_stop, announced_go, announced_out, subs_add}
 use Rattle.tree.proofs.subs_behind.Goals as goal
-
-pub loop-i-init : goal.loop-i-init
-loop-i-init c = refl
-
-pub blocks_behind-at-requires : goal.blocks_behind-at-requires
-blocks_behind-at-requires c = omega arith
 
 pub returns-then-o-ge64 : goal.returns-then-o-ge64
 returns-then-o-ge64 c =

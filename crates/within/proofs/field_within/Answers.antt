@@ -1,15 +1,16 @@
 -- `within::field_within` meets its contract: NPar(1) is compared, and then what SPar(1) announces.
 -- Assumes nothing.
-use borrow.Author.Tests.{not-true, not-false}
+use mathlib.Core.Path.{refl}
 use Rattle.tree.proofs.Wide.{fits_parts}
 use Rattle.within.proofs.Beside.{field_lost, field_found}
 use Rattle.within.proofs.field_within.Goals as goal
 
-pub returns-then-not-first : goal.returns-then-not-first
-returns-then-not-first c = field_lost _ _ _ _ c.requires.0 c.requires.1 c.block_within-first.ensures (not-true _ c.if-not-first.true)
+pub invariant_of-pair : goal.invariant_of-pair
+invariant_of-pair c = record { mine_low = (fits_parts _ _ c.requires.0).2; theirs_low = (fits_parts _ _ c.requires.1).2 }
 
-pub pars_within-rest-requires : goal.pars_within-rest-requires
-pars_within-rest-requires c = ((fits_parts _ _ c.requires.0).2, (fits_parts _ _ c.requires.1).2)
+pub returns-in-Some : goal.returns-in-Some
+returns-in-Some c =
+    rw c.is_some.ensures (field_found _ _ _ _ c.requires.0 c.requires.1 c.in-Some.ensures refl c.spars_within.ensures)
 
-pub returns : goal.returns
-returns c = field_found _ _ _ _ c.requires.0 c.requires.1 c.block_within-first.ensures (not-false _ c.if-not-first.false) c.pars_within-rest.ensures
+pub returns-in-None : goal.returns-in-None
+returns-in-None c = field_lost _ _ _ _ c.requires.0 c.requires.1 c.in-None.ensures refl

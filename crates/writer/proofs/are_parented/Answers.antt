@@ -1,5 +1,4 @@
--- `writer::are_parented` meets its contract. The loop's invariant: the codes have their parents if those from i on have, and group and
--- top are the last ones before them that can be parents (`Parenting`).
+-- `writer::are_parented` meets its contract.
 -- Assumes nothing.
 use Prim.Native.Nat.{◌+◌}
 use mathlib.Core.List.{◌∷◌}
@@ -7,34 +6,20 @@ use mathlib.Core.Path.{sym, ◌∙◌}
 use native.Mathlib.Omega.{arith}
 use lib.ListN.{get_or, drop, drop_of_length-le}
 use Rattle.octets.proofs.Laws.{drop_next}
-use Rattle.writer.proofs.Parents.{latest_take, latest_pass, Parenting, parenting_none, parenting_fails, parenting_turn, parenting_end}
+use Rattle.writer.proofs.Parents.{latest_take, latest_pass, Parenting, parenting_fails, parenting_turn, parenting_end}
 use Rattle.writer.proofs.are_parented.Goals as goal
 use Rattle.writer.proofs.are_parented.Goals.{then-code-eq0+then-code-eq0-2, then-code-eq0+else-code-eq0-2, else-code-eq0}
 
-pub loop-i-init : goal.loop-i-init
-loop-i-init c = parenting_none c.args.list.now c.requires
-
-pub offset_bounds-list-i : goal.offset_bounds-list-i
-offset_bounds-list-i c = omega arith
-
-pub bounds-list-i : goal.bounds-list-i
-bounds-list-i c = omega arith
-
 pub returns-then-not-stands_under : goal.returns-then-not-stands_under
 returns-then-not-stands_under c =
-    let here : let list = c.args.list.now in Parenting list (get_or list c.loop-i.i 0 ∷ drop (c.loop-i.i + 1) list) c.loop-i.top c.loop-i.group = rw (drop_next c.args.list.now c.loop-i.i c.loop-i-test.true) at c.loop-i.invariant in
+    let i = c.loop-code.code-index in
+    let here : let list = c.args.list.now in Parenting list (get_or list i 0 ∷ drop (i + 1) list) c.loop-code.top c.loop-code.group = rw (drop_next c.args.list.now i c.loop-code-test.true) at c.loop-code.invariant in
     parenting_fails here (sym c.stands_under.ensures ∙ c.if-not-stands_under.true)
 
-pub overflow_add-i : goal.overflow_add-i
-overflow_add-i c = omega arith
-
-pub loop-i-smaller : goal.loop-i-smaller
-loop-i-smaller c = omega arith
-
-pub loop-i-preserved : goal.loop-i-preserved
-loop-i-preserved c =
-    let here : let list = c.args.list.now in Parenting list (get_or list c.loop-i.i 0 ∷ drop (c.loop-i.i + 1) list) c.loop-i.top c.loop-i.group = rw (drop_next c.args.list.now c.loop-i.i c.loop-i-test.true) at c.loop-i.invariant in
-    let x = here in
+pub loop-code-preserved : goal.loop-code-preserved
+loop-code-preserved c =
+    let i = c.loop-code.code-index in
+    let x : let list = c.args.list.now in Parenting list (get_or list i 0 ∷ drop (i + 1) list) c.loop-code.top c.loop-code.group = rw (drop_next c.args.list.now i c.loop-code-test.true) at c.loop-code.invariant in
     let came = c.if-code-eq0.branch in
     parenting_turn x (sym c.stands_under.ensures ∙ c.if-not-stands_under.false)
     (elim came [
@@ -49,4 +34,4 @@ loop-i-preserved c =
     ])
 
 pub returns : goal.returns
-returns c = parenting_end (rw (drop_of_length-le c.args.list.now {i = c.loop-i.i} c.loop-i-test.false) at c.loop-i.invariant)
+returns c = parenting_end (rw (drop_of_length-le c.args.list.now {i = c.loop-code.code-index} c.loop-code-test.false) at c.loop-code.invariant)

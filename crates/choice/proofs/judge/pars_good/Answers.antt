@@ -1,33 +1,20 @@
--- `choice::judge::pars_good` meets its contract. The loop's invariant: the Par(2) blocks are good exactly if those of the octets left are (`OctetsJudged`).
+-- `choice::judge::pars_good` meets its contract: block by block.
 -- Assumes nothing.
-use native.Mathlib.Omega.{arith}
-use Rattle.good.proofs.Stepping.{octets_start, octets_end, octets_bad, octets_last, octets_turn}
+use mathlib.Core.Path.{◌∙◌}
+use Rattle.tree.specs.declared.Level.TheVariants.{Top}
+use Rattle.tree.proofs.Giving.{given_all}
+use Rattle.good.proofs.Stepping.{pars_bad, pars_on, pars_end}
 use Rattle.choice.proofs.judge.pars_good.Goals as goal
 
-pub loop-i-init : goal.loop-i-init
-loop-i-init c = octets_start c.requires.1
+pub loop-q-init : goal.loop-q-init
+loop-q-init c = rw (c.into_iter-q-iterator.ensures.into_iter_gives ∙ given_all Top c.args.s.now c.args.e c.requires c.positions-q-items.ensures)
 
-pub pars_good_of-at-requires : goal.pars_good_of-at-requires
-pars_good_of-at-requires c = let i = c.loop-i.invariant in
-    (omega arith, omega (arith, i.reach), i.some, c.requires.2)
+pub returns-in_err-at : goal.returns-in_err-at
+returns-in_err-at c =
+    c.from_residual.ensures ∙ pars_bad _ _ _ _ _ c.in_err-at.ensures ∙ (rw c.in-Some.ensures.steps at c.loop-q.invariant)
 
-pub returns-then-at-eq0 : goal.returns-then-at-eq0
-returns-then-at-eq0 c = octets_bad c.loop-i.invariant c.loop-i-test.true c.pars_good_of-at.ensures c.if-at-eq0.true
-
-pub returns-then-octet-ge128 : goal.returns-then-octet-ge128
-returns-then-octet-ge128 c = octets_last c.loop-i.invariant c.loop-i-test.true c.pars_good_of-at.ensures c.if-at-eq0.false c.if-octet-ge128.true
-
-pub overflow_add-above : goal.overflow_add-above
-overflow_add-above c = omega (arith, c.loop-i.invariant.reach)
-
-pub overflow_add-i : goal.overflow_add-i
-overflow_add-i c = omega arith
-
-pub loop-i-smaller : goal.loop-i-smaller
-loop-i-smaller c = omega arith
-
-pub loop-i-preserved : goal.loop-i-preserved
-loop-i-preserved c = octets_turn c.loop-i.invariant c.loop-i-test.true c.pars_good_of-at.ensures c.if-at-eq0.false c.if-octet-ge128.false
+pub loop-q-preserved : goal.loop-q-preserved
+loop-q-preserved c = pars_on _ _ _ _ _ c.in_ok-at.ensures ∙ (rw c.in-Some.ensures.steps at c.loop-q.invariant)
 
 pub returns : goal.returns
-returns c = octets_end c.loop-i.invariant c.loop-i-test.false
+returns c = pars_end _ _ _ ∙ (rw c.in-None.ensures.steps.0 at c.loop-q.invariant)

@@ -7,6 +7,3 @@ use Rattle.choice.proofs.learn.block_bits.Given as goal
 
 abbrev pub invariant-loop-i : goal.invariant-loop-i
 invariant-loop-i l = (l.e ≤ l.i) × (l.i ≤ l.end) × (l.bits ≡ value_from l.w l.t l.i (l.end - l.i) % 2 ^ 32)
-
-abbrev pub decreases-loop-i : goal.decreases-loop-i
-decreases-loop-i l = l.i - l.e

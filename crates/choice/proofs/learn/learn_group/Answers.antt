@@ -1,17 +1,12 @@
 -- `choice::learn::learn_group` meets its contract: nothing stands there, or SPar(2) and its NPar(3) are put.
 -- Assumes nothing.
 use mathlib.Core.Path.{sym, ◌∙◌}
-use native.Mathlib.Omega.{arith}
-use lib.ListN.{length-set}
 use Rattle.good.proofs.Putting.{group_none, group_some}
 use Rattle.choice.proofs.learn.learn_group.Goals as goal
 
 pub returns-then-bit8 : goal.returns-then-bit8
 returns-then-bit8 c =
     group_none c.args.q c.args.t.now c.args.e _ (sym c.bit8.ensures ∙ c.if-bit8.true)
-
-pub bounds-names-place-2 : goal.bounds-names-place-2
-bounds-names-place-2 c = simp length-set (omega (arith, c.below_at-place.ensures.1))
 
 pub returns : goal.returns
 returns c =

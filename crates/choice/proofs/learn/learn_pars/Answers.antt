@@ -1,36 +1,26 @@
--- `choice::learn::learn_pars` meets its contract. The loop's invariant: what is put with the bits left is what is put with all (`BitsPut`). The measure is the bits left, as a number.
+-- `choice::learn::learn_pars` meets its contract: block by block.
 -- Assumes nothing.
-use mathlib.Core.Path.{sym, ◌∙◌}
+use mathlib.Core.Path.{◌∙◌}
 use native.Mathlib.Omega.{arith}
-use Rattle.good.proofs.Putting.{put_start, put_end, put_reach, put_less, put_turn}
+use Rattle.tree.specs.Order.{AllBelow}
+use Rattle.tree.specs.declared.Level.TheVariants.{Top}
+use Rattle.tree.proofs.Giving.{given_all}
+use Rattle.good.proofs.Putting.{put_on, put_end}
 use Rattle.choice.proofs.learn.learn_pars.Goals as goal
 
-pub loop-bits-init : goal.loop-bits-init
-loop-bits-init c = put_start c.requires.0 c.requires.1
-
-pub overflow_shr-bits : goal.overflow_shr-bits
-overflow_shr-bits c = omega (arith, put_reach c.loop-bits.invariant c.loop-bits-test.true)
-
-pub overflow_cast-q : goal.overflow_cast-q
-overflow_cast-q c = omega (arith, put_reach c.loop-bits.invariant c.loop-bits-test.true)
-
-pub overflow_add-q : goal.overflow_add-q
-overflow_add-q c = omega (arith, put_reach c.loop-bits.invariant c.loop-bits-test.true)
-
-pub overflow_add-q-in-loop-bits : goal.overflow_add-q-in-loop-bits
-overflow_add-q-in-loop-bits c = omega (arith, put_reach c.loop-bits.invariant c.loop-bits-test.true)
+pub loop-q-init : goal.loop-q-init
+loop-q-init c =
+    let all = c.into_iter-q-iterator.ensures.into_iter_gives ∙ given_all Top c.args.t.now c.args.e c.requires.0 c.positions-q-items.ensures in
+    (rw all c.requires.1, rw all)
 
 pub learn_par-at-requires : goal.learn_par-at-requires
-learn_par-at-requires c = (c.loop-bits.invariant.size, put_reach c.loop-bits.invariant c.loop-bits-test.true)
+unfolding AllBelow
+learn_par-at-requires c = omega (arith, (rw c.in-Some.ensures.steps at c.loop-q.invariant.0).0)
 
-pub loop-bits-smaller : goal.loop-bits-smaller
-loop-bits-smaller c = put_less c.loop-bits.invariant c.loop-bits-test.true
-
-pub loop-bits-preserved : goal.loop-bits-preserved
-loop-bits-preserved c = put_turn c.loop-bits.invariant c.loop-bits-test.true c.learn_par-at.ensures
-
-pub shape_of-names : goal.shape_of-names
-shape_of-names c = c.loop-bits.invariant.size ∙ sym c.requires.0
+pub loop-q-preserved : goal.loop-q-preserved
+unfolding AllBelow
+loop-q-preserved c =
+    ((rw c.in-Some.ensures.steps at c.loop-q.invariant.0).1, put_on _ _ _ _ _ c.learn_par-at.ensures ∙ (rw c.in-Some.ensures.steps at c.loop-q.invariant.1))
 
 pub returns : goal.returns
-returns c = put_end c.loop-bits.invariant c.loop-bits-test.false
+returns c = put_end _ _ _ ∙ (rw c.in-None.ensures.steps.0 at c.loop-q.invariant.1)

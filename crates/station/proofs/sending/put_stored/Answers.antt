@@ -5,9 +5,8 @@ use Rattle.octets.proofs.Laying.{put-nil}
 use Rattle.station.proofs.FarSide.{stores_kept}
 use Rattle.station.proofs.sending.put_stored.Goals as goal
 
-pub returns-in-Leave : goal.returns-in-Leave
-returns-in-Leave c = rw c.in-Leave.is (refl, sym (put-nil _))
+pub returns-in-Some : goal.returns-in-Some
+returns-in-Some c = rw (c.in-Some.is, c.unwrap_or.ensures) (stores_kept c.in-Some.kept.message c.requires c.rewrite_field.ensures)
 
-pub returns-in-Kept : goal.returns-in-Kept
-returns-in-Kept c =
-    rw c.in-Kept.is (stores_kept (rw c.in-Kept.is at c.requires.0) c.requires.1 c.rewrite_field.ensures)
+pub returns-in-None : goal.returns-in-None
+returns-in-None c = rw c.in-None.is (refl, sym (put-nil _))
