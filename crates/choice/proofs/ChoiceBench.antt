@@ -53,8 +53,8 @@ abbrev one : ℕ → ℕ → Pick
 one number at = record { number = number; at = at; length = 4 }
 
 -- the verdict on the MS with these octets, whose S is at place 3
-abbrev then_some : List ℕ → List ℕ → ℕ
-then_some s run = verdict (codes_in Standard s 3) (wishes_of run)
+abbrev judged : List ℕ → List ℕ → ℕ
+judged s run = verdict (codes_in Standard s 3) (wishes_of run)
 
 pub record Positions : Type 0 where
   -- the wish in an own table that holds it, and none at all; the most wishes
@@ -80,10 +80,10 @@ pub record Positions : Type 0 where
   pub too_far : choice (standard_codes wide) (far_codes (long 83 0xc2) 0) ready_wish ≡ refused 11
   pub unlisted : choice [] unheard ready_wish ≡ chosen (one 1 2)
   -- MS 21 80 80 80 81 02 D8 is NAK(3), and 21 89 80 80 81 02 D0 is accepted; to a wish not ready NAK(2)
-  pub no_fit : then_some (0x21 ∷ 0x80 ∷ 0x80 ∷ 0x80 ∷ 0x81 ∷ 0x02 ∷ 0xd8 ∷ []) ready_wish ≡ 3
-  pub accepted : then_some (0x21 ∷ 0x89 ∷ 0x80 ∷ 0x80 ∷ 0x81 ∷ 0x02 ∷ 0xd0 ∷ []) ready_wish ≡ 0
-  pub not_ready : then_some (0x21 ∷ 0x89 ∷ 0x80 ∷ 0x80 ∷ 0x81 ∷ 0x02 ∷ 0xd0 ∷ []) other_wish ≡ 2
-  pub empty : then_some (0x21 ∷ 0x89 ∷ 0x80 ∷ 0x80 ∷ 0x80 ∷ []) ready_wish ≡ 3
+  pub no_fit : judged (0x21 ∷ 0x80 ∷ 0x80 ∷ 0x80 ∷ 0x81 ∷ 0x02 ∷ 0xd8 ∷ []) ready_wish ≡ 3
+  pub accepted : judged (0x21 ∷ 0x89 ∷ 0x80 ∷ 0x80 ∷ 0x81 ∷ 0x02 ∷ 0xd0 ∷ []) ready_wish ≡ 0
+  pub not_ready : judged (0x21 ∷ 0x89 ∷ 0x80 ∷ 0x80 ∷ 0x81 ∷ 0x02 ∷ 0xd0 ∷ []) other_wish ≡ 2
+  pub empty : judged (0x21 ∷ 0x89 ∷ 0x80 ∷ 0x80 ∷ 0x80 ∷ []) ready_wish ≡ 3
 
 pub positions : Positions
 unfolding set_bits block_numbers block_end sub_codes subs_behind group_codes group_behind par_codes pars_behind rest_codes rest_behind field_codes field_behind block_form subs_form group_form pars_form rest_form field_form codes_in is_in all_in has_spar low_fits field_fits codes_wide full_at_end tight subs_minimal group_minimal pars_minimal field_minimal printed_under printed_at printed_of all_standard good_field wishes_in good_records all_inside tables_no first_suiting choice fits_some fits_ready verdict

@@ -102,6 +102,7 @@ fn block_bits(t: &[u8], e: usize, end: usize, level: Level) -> u32
     let w = level.width();
     let m = level.mark();
     let mut bits = 0u32;
+    // by places, from which the contract counts: each bound follows from the range
     for i in (e..end).rev() {
         bits = (bits << w) + u32::from(t[i] % m);
     }

@@ -10,6 +10,7 @@ const MOST_WISHES: usize = 16;
 // A record: its flag, its standard field, and the octets of the run behind it.
 #[derive(Clone, Copy)]
 pub(crate) struct Record<'a> {
+    // the octet as it stands: `is_good_record` judges what is above 1 bad, and choosing takes any but 1 as not ready
     pub(crate) flag: u8,
     pub(crate) field: &'a [u8],
     pub(crate) behind: &'a [u8],

@@ -48,7 +48,8 @@ fn part(run: &[u8], start: usize, length: usize) -> &[u8] {
     behind.get(..length).unwrap_or(b"")
 }
 
-// Puts the frame of a field on the line, and gives its bits: none for a field of no octets, which is refused.
+// Puts the frame of a field on the line, and gives its bits: none for a field of no octets, which is refused. No bits are no frame: the
+// reader refuses them, and the board hears an invalid frame.
 fn send(field: &[u8], line: &mut [u8]) -> usize {
     frame::write_frame(field, 2, 1, line).unwrap_or(0)
 }

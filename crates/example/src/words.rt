@@ -1,5 +1,6 @@
 // What a board does, in words: a line for each thing, which begins with the board's name. What does not come up in the README's
 // transaction has no name of its own here.
+use message::MessageType;
 use station::StepRefusal;
 use std::io;
 use table::{Phase, Signal};
@@ -16,11 +17,17 @@ fn print_run(rt: &impl Print, name: char, text: &str, run: &[u8]) -> io::Result<
     println!(rt; "")
 }
 
+// The type of a message: the low four bits of its first octet.
+fn kind_of(field: &[u8]) -> Option<MessageType> {
+    let first = field.first()?;
+    MessageType::try_from(*first % 16).ok()
+}
+
 pub(crate) fn print_sent(rt: &impl Print, name: char, field: &[u8]) -> io::Result<()> {
-    match field.first().map(|octet| *octet % 16) {
-        Some(1) => print_run(rt, name, "sends MS", field),
-        Some(2) => print_run(rt, name, "sends CL", field),
-        Some(4) => print_run(rt, name, "sends ACK(1)", field),
+    match kind_of(field) {
+        Some(MessageType::Ms) => print_run(rt, name, "sends MS", field),
+        Some(MessageType::Cl) => print_run(rt, name, "sends CL", field),
+        Some(MessageType::Ack1) => print_run(rt, name, "sends ACK(1)", field),
         _ => print_run(rt, name, "sends", field),
     }
 }

@@ -1,4 +1,3 @@
 pub mod Stored
-pub mod Positions
 pub mod Rows
 pub mod Both

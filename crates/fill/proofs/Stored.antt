@@ -1,6 +1,6 @@
 -- Codes stored run after run in one list.
 -- Assumes nothing.
-use Prim.Native.Nat.{ℕ, ◌+◌, ◌*◌, ◌≤◌}
+use Prim.Native.Nat.{ℕ, ◌+◌, ◌*◌}
 use mathlib.Core.Path.{◌≡◌, refl, sym, ap, ◌∙◌}
 use mathlib.Core.List.{List, [], ◌∷◌, ◌++◌}
 use native.Mathlib.Omega.{arith}
@@ -51,11 +51,6 @@ pub record Going {A : Type 0} (stored : List A → ℕ → ℕ → List A) (cs :
   pub at : to ≡ end
 
 module _ {A : Type 0} {stored : List A → ℕ → ℕ → List A} {cs : List ℕ} {end : ℕ} {list₀ : List A} {n : ℕ} where
-  pub going_one : {code : ℕ} {todo : List ℕ} {to : ℕ} {list list₁ : List A} {count : ℕ} → list₁ ≡ stored list count code → Going stored cs end list₀ n (code ∷ todo) to list count
-      → Going stored cs end list₀ n todo to list₁ (count + 1)
-  unfolding laid
-  going_one h g = record { same = rw h g.same; sum = omega (arith, g.sum); at = g.at }
-
   pub going_run : (ones todo : List ℕ) {to : ℕ} {list list₁ : List A} {count r : ℕ} → r ≡ count + length ones → list₁ ≡ laid stored list count ones → Going stored cs end list₀ n (ones ++ todo) to list count
       → Going stored cs end list₀ n todo to list₁ r
   going_run ones todo {list = list} {count = count} e h g =
@@ -64,17 +59,6 @@ module _ {A : Type 0} {stored : List A → ℕ → ℕ → List A} {cs : List �
         sum = omega (arith, e, g.sum, length-append ones todo);
         at = g.at;
       }
-
-  pub going_turn : {ones todo : List ℕ} {place to : ℕ} {list list₁ : List A} {count : ℕ} {r : Tally} → Going stored cs end list₀ n (ones ++ todo) to list count → Fills stored ones place list count list₁ r
-      → Going stored cs end list₀ n todo to list₁ r.count
-  going_turn {ones} {todo} g f = going_run ones todo f.count f.list g
-
-  pub going_room : (ones todo : List ℕ) {to : ℕ} {list : List A} {count most : ℕ} → Going stored cs end list₀ n (ones ++ todo) to list count → n + length cs ≤ most → count + length ones ≤ most
-  going_room ones todo g h = omega (arith, g.sum, length-append ones todo)
-
-  pub going_end : {to : ℕ} {list : List A} {r : Tally} → Going stored cs end list₀ n [] to list r.count → r.at ≡ to → Fills stored cs end list₀ n list r
-  unfolding laid
-  going_end g h = record { count = omega (arith, g.sum); list = g.same; at = h ∙ g.at }
 
 -- what is stored in two steps
 pub fills_then : {A : Type 0} {stored : List A → ℕ → ℕ → List A} {cs ds : List ℕ} {place end : ℕ} {list₀ list₁ list₂ : List A} {n : ℕ} {r v : Tally} → Fills stored cs place list₀ n list₁ r

@@ -2,6 +2,7 @@
 #![tactic(auto)]
 
 ghost use Rattle.std.specs.Prelude.{◌+◌, ◌*◌, ◌%◌, ◌^◌, ◌≤◌, ◌<◌, ℕ, List, length, set, [], ◌∷◌, ◌++◌, ◌≡◌};
+ghost use Rattle.tree.specs.Levels.{width_of, mark_of};
 ghost use Rattle.tree.specs.Block.{set_bits, behind, numbers};
 ghost use Rattle.tree.specs.Codes.{of_t, of_s, field_base, sub_codes, subs_behind, group_codes, group_behind, par_codes, pars_behind, field_codes};
 ghost use Rattle.tree.specs.Fields.{fours};
@@ -9,7 +10,9 @@ ghost use Rattle.std.proofs.lemmas.List.Edits.{sets};
 ghost use Rattle.fill.specs.Storing.{most_of_field, most_codes, laid, set_number, set_fours, Fills};
 ghost use Rattle.fill.specs.Promises.{codes_of_both, FillsFields};
 
-use tree::{IDENTIFICATION, MOST_OCTETS, OF_S, OF_T, STANDARD, bit8, block_behind, top_behind};
+use tree::{
+    IDENTIFICATION, Level, MOST_OCTETS, OF_S, OF_T, STANDARD, bit8, block_behind, top_behind,
+};
 
 // How many codes are stored, and how far reading has come.
 #[derive(Clone, Copy)]
@@ -46,12 +49,12 @@ impl Item for u8 {
     }
 }
 
-// Stores the lowest octet of a number at a place, where there is room for it.
-fn put_octet(list: &mut [u8], i: usize, number: u32)
-    ensures { list.new ≡ set list.old i (number % 256) }
+// Stores an octet at a place, where there is room for it.
+fn put_octet(list: &mut [u8], i: usize, octet: u8)
+    ensures { list.new ≡ set list.old i octet }
 {
     if i < list.len() {
-        list[i] = (number % 256) as u8;
+        list[i] = octet;
     }
 }
 
@@ -60,21 +63,19 @@ fn put_four(list: &mut [u8], i: usize, c: u32)
     requires { i ≤ 4 * most_codes }
     ensures { list.new ≡ sets list.old i (fours (c ∷ [])) }
 {
-    if i + 4 <= list.len() {
-        list[i] = (c % 256) as u8;
-        list[i + 1] = (c / 256 % 256) as u8;
-        list[i + 2] = (c / 65536 % 256) as u8;
-        list[i + 3] = (c / 16777216 % 256) as u8;
+    let octets = c.to_le_bytes();
+    if i + octets.len() <= list.len() {
+        list[i..i + octets.len()].copy_from_slice(&octets);
         return;
     }
-    put_octet(list, i, c);
-    put_octet(list, i + 1, c / 256);
-    put_octet(list, i + 2, c / 65536);
-    put_octet(list, i + 3, c / 16777216);
+    put_octet(list, i, octets[0]);
+    put_octet(list, i + 1, octets[1]);
+    put_octet(list, i + 2, octets[2]);
+    put_octet(list, i + 3, octets[3]);
 }
 
-// Stores the codes of the positions that are set in an octet, above a number, behind the n stored before. Here and below octets and bits
-// are walked by hand: with an iterator over positions the message reader takes 304 octets of stack, and the C header allows 208.
+// Stores the codes of the positions that are set in an octet, above a number, behind the n stored before. Here and below bits are walked by
+// hand: with an iterator over positions the message reader takes 304 octets of stack, and the C header allows 208.
 fn fill_bits<T: Item>(octet: u8, above: u32, list: &mut [T], n: usize) -> usize
     requires { (octet < 128) × (above ≤ field_base 4) × (n + length (set_bits 7 above octet) ≤ most_codes) }
     ensures { (result ≡ n + length (set_bits 7 above octet)) × (list.new ≡ laid T.stored list.old n (set_bits 7 above octet)) }
@@ -100,25 +101,26 @@ struct Octets<'a> {
 }
 
 impl<'a> Octets<'a> {
-    // Stores the codes of the block at a place, above a number. The place behind it is told, so it is counted.
-    fn fill_block<T: Item>(self, w: u32, p: u32, list: &mut [T], start: Tally) -> Tally
-        requires { (w ≤ 7) × (p ≤ field_base 3) × (start.count + length (numbers w (2 ^ w) p self.run.now start.at) ≤ most_codes) }
-        ensures { Fills T.stored (numbers w (2 ^ w) p self.entry.run.now start.at) (behind (2 ^ w) self.entry.run.now start.at) list.old start.count list.new result }
+    // Stores the codes of the block at a place, above a number.
+    fn fill_block<T: Item>(self, level: Level, p: u32, list: &mut [T], start: Tally) -> Tally
+        requires { (p ≤ field_base 3) × (start.count + length (numbers (width_of level) (mark_of level) p self.run.now start.at) ≤ most_codes) }
+        ensures { Fills T.stored (numbers (width_of level) (mark_of level) p self.entry.run.now start.at) (behind (mark_of level) self.entry.run.now start.at) list.old start.count list.new result }
     {
-        let m = 1u8 << w;
+        let mark = level.mark();
+        let width = level.width();
         let mut count = start.count;
         let mut above = p;
-        let mut i = start.at;
-        while i < self.run.len() {
+        let mut at = start.at;
+        for i in start.at..self.run.len() {
             let o = self.run[i];
-            i += 1;
-            count = fill_bits(o % m, above, list, count);
-            if m <= o {
-                return Tally { count, at: i };
+            at = i + 1;
+            count = fill_bits(o % mark, above, list, count);
+            if mark <= o {
+                return Tally { count, at };
             }
-            above += w;
+            above += width;
         }
-        Tally { count, at: i }
+        Tally { count, at }
     }
 
     // Stores a code, which is not 0, and the NPar block below level 1 at the tally's place, above that code.
@@ -128,7 +130,7 @@ impl<'a> Octets<'a> {
     {
         let at = start.at;
         let count = fill_bits(1, code - 1, list, start.count);
-        self.fill_block(6, code, list, Tally { count, at })
+        self.fill_block(Level::Low, code, list, Tally { count, at })
     }
 
     // Stores the SPar(2) above a code whose positions are set in an octet, each with the NPar(3) block that follows.
@@ -230,7 +232,7 @@ impl<'a> Octets<'a> {
         requires { (base ≤ field_base 2) × (n ≤ most_of_field) }
         ensures { (result ≡ n + length (field_codes base self.entry.run.now at)) × (list.new ≡ laid T.stored list.old n (field_codes base self.entry.run.now at)) }
     {
-        let first = self.fill_block(7, base, list, Tally { count: n, at });
+        let first = self.fill_block(Level::Top, base, list, Tally { count: n, at });
         let e = first.at;
         let start = Tally {
             count: first.count,
@@ -240,17 +242,13 @@ impl<'a> Octets<'a> {
     }
 
     // Stores the codes of I and then those of S, which are at these places, and gives how many there are. One call serves both fields, so
-    // that it is compiled once; pairs to go through would lie on the stack, 16 octets above what the C header allows.
+    // that it is compiled once.
     fn fill_both<T: Item>(self, identification: usize, standard: usize, list: &mut [T]) -> usize
         ensures { (result ≡ length (codes_of_both self.entry.run.now identification standard)) × (list.new ≡ laid T.stored list.old 0 (codes_of_both self.entry.run.now identification standard)) }
     {
-        let mut base = IDENTIFICATION;
-        let mut at = identification;
         let mut n = 0;
-        while base <= STANDARD {
+        for (base, at) in [(IDENTIFICATION, identification), (STANDARD, standard)] {
             n = self.fill_field(at, base, list, n);
-            at = standard;
-            base += IDENTIFICATION;
         }
         n
     }

@@ -17,7 +17,7 @@ use Rattle.octets.proofs.Window.{number_cons}
 use Rattle.fcs.specs.Division.{fcs}
 use Rattle.fcs.proofs.Registers.{fcs_octets}
 use Rattle.frame.specs.Reader.{Reading, refused, information, same, ahead, check, checked, read_told, read_reply, read_leaves, Reads}
-use Rattle.frame.specs.Content.{Stands}
+use Rattle.frame.specs.Inner.{Stands}
 use Rattle.std.specs.Prelude.{Result, Ok}
 use Rattle.frame.specs.declared.FrameReadRefusal.{FrameReadRefusal}
 use Rattle.frame.proofs.Sights.{drop_take}

@@ -13,7 +13,8 @@ use Rattle.octets.specs.Places.{bit_at, is_one}
 use Rattle.std.specs.Prelude.{Option, Some}
 use Rattle.octets.proofs.Laws.{one_at}
 use Rattle.frame.specs.Inner.{closes}
-use Rattle.frame.specs.Content.{Stands, Keeps, Ends}
+use Rattle.frame.specs.Content.{Keeps, Ends}
+use Rattle.frame.specs.Inner.{Stands}
 use Rattle.frame.specs.declared.Kept.{Kept}
 use Rattle.frame.proofs.Sights.{length_run}
 

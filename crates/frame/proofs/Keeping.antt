@@ -13,9 +13,10 @@ use lib.Seq.{length-take-le, take_all, take-append-le, take-append-add, take-tak
 use lib.ListN.{length, set, take, drop, length-append, length-drop, length-set}
 use Rattle.octets.specs.Bits.{bits, number, oct_before}
 use Rattle.octets.proofs.Laws.{bits_append, bits_take}
-use Rattle.octets.proofs.Digits.{number_append, number_take, number_drop, number_lt, number_small, octet_take, octet_number}
+use Rattle.octets.proofs.Digits.{number_append, number_take, number_drop, number_small, octet_take, octet_number}
 use Rattle.frame.specs.Pen.{low_bits}
-use Rattle.frame.specs.Content.{Stands, Keeps, Able, Gains}
+use Rattle.frame.specs.Content.{Keeps, Able, Gains}
+use Rattle.frame.specs.Inner.{Stands}
 use Rattle.frame.specs.declared.Kept.{Kept}
 use Rattle.frame.proofs.Pens.{length_low_bits, number_low_bits}
 
@@ -42,13 +43,6 @@ stands_next i m bs plain x few long e s k a b = go (dec_lt i (length plain))
         ∙ (rw l at (take-append-add (take (i * 8) bs) (oct_before x []) m)) ∙ ap (λ (p : List Bool). take (i * 8) bs ++ p) e ∙ sym (take-add (i * 8) m bs) in
         sym (take-take k (i * 8 + m) (bits (set plain i x)) a) ∙ ap (take k) all ∙ take-take k (i * 8 + m) bs a
 
--- the rest at hand has no bit beyond those that it holds
-pub keeps_low : {bs : List Bool} {plain : List ℕ} {kept : Kept} → Keeps bs plain kept → kept.rest < 2 ^ (kept.size % 8)
-keeps_low {bs} {kept = kept} h =
-    let n = length bs / 8 * 8 in
-    let e : length (drop n bs) ≡ kept.size % 8 = omega (arith, length-drop n bs, h.size) in
-    rw h.rest (rw e at (number_lt (drop n bs)))
-
 -- the rest at hand and a value behind it
 abbrev pub joined : Kept → ℕ → ℕ
 joined kept v = kept.rest + v * 2 ^ (kept.size % 8) % 4294967296
@@ -61,7 +55,7 @@ module _ (kept : Kept) {w v : ℕ} (p : (v < 2 ^ w) × (w ≤ 8) × Able kept w)
 
   -- both together have no bit beyond the place behind them
   joined_lt : joined kept v < 2 ^ (w + kept.size % 8)
-  joined_lt = omega (arith, shifted, pow-add 2 w (kept.size % 8), digits_lt p.0 p.2.0)
+  joined_lt = omega (arith, shifted, pow-add 2 w (kept.size % 8), digits_lt p.0 kept.low)
 
   -- so they fit k bits, where that place does
   pub joined_fits : (k : ℕ) → w + kept.size % 8 ≤ k → joined kept v < 2 ^ k
@@ -78,11 +72,18 @@ module _ (kept : Kept) {w v : ℕ} (p : (v < 2 ^ w) × (w ≤ 8) × Able kept w)
   longer : (done : List Bool) → length (done ++ low_bits w v) ≡ length done + w
   longer done = length-append done (low_bits w v) ∙ ap (λ (n : ℕ). length done + n) (length_low_bits w v)
 
+  -- with no bit beyond the place behind them
+  pub low_stay : kept.size % 8 + w < 8 → joined kept v < 2 ^ ((kept.size + w) % 8)
+  low_stay less = let e : (kept.size + w) % 8 ≡ w + kept.size % 8 = omega arith in rw e joined_lt
+
+  pub low_store : 8 ≤ kept.size % 8 + w → joined kept v / 256 < 2 ^ ((kept.size + w) % 8)
+  low_store full = let e : w + kept.size % 8 ≡ (kept.size + w) % 8 + 8 = omega arith in shr_lt ((kept.size + w) % 8) 8 (rw e at joined_lt)
+
   -- bits that do not fill the octet stay at hand
-  pub gains_stay : (plain : List ℕ) → kept.size % 8 + w < 8 → Gains (low_bits w v) plain kept plain (record { size = kept.size + w; rest = joined kept v })
+  pub gains_stay : {low : joined kept v < 2 ^ ((kept.size + w) % 8)} (plain : List ℕ) → kept.size % 8 + w < 8
+      → Gains (low_bits w v) plain kept plain (record { size = kept.size + w; rest = joined kept v; low = low })
   gains_stay plain less = record {
     size = ap (λ (n : ℕ). kept.size + n) (sym (length_low_bits w v));
-    low = let e : (kept.size + w) % 8 ≡ w + kept.size % 8 = omega arith in rw e joined_lt;
     room = refl;
     keeps = λ done h.
         let e : length (done ++ low_bits w v) / 8 ≡ length done / 8 = omega (arith, h.size, longer done) in
@@ -94,10 +95,10 @@ module _ (kept : Kept) {w v : ℕ} (p : (v < 2 ^ w) × (w ≤ 8) × Able kept w)
   }
 
   -- where they fill it, it is stored, and the others stay
-  pub gains_store : (plain : List ℕ) → 8 ≤ kept.size % 8 + w → Gains (low_bits w v) plain kept (set plain (kept.size / 8) (joined kept v % 256)) (record { size = kept.size + w; rest = joined kept v / 256 })
+  pub gains_store : {low : joined kept v / 256 < 2 ^ ((kept.size + w) % 8)} (plain : List ℕ) → 8 ≤ kept.size % 8 + w
+      → Gains (low_bits w v) plain kept (set plain (kept.size / 8) (joined kept v % 256)) (record { size = kept.size + w; rest = joined kept v / 256; low = low })
   gains_store plain full = record {
     size = ap (λ (n : ℕ). kept.size + n) (sym (length_low_bits w v));
-    low = let e : w + kept.size % 8 ≡ (kept.size + w) % 8 + 8 = omega arith in shr_lt ((kept.size + w) % 8) 8 (rw e at joined_lt);
     room = length-set plain (kept.size / 8) (joined kept v % 256);
     keeps = λ done h.
         let bs = done ++ low_bits w v in
@@ -115,14 +116,13 @@ module _ (kept : Kept) {w v : ℕ} (p : (v < 2 ^ w) × (w ≤ 8) × Able kept w)
   }
 
 -- nothing is added where nothing is kept
-pub gains_none : (plain : List ℕ) (kept : Kept) → kept.rest < 2 ^ (kept.size % 8) → Gains [] plain kept plain kept
-gains_none plain kept low = record { size = omega arith; low = low; room = refl; keeps = λ done h. rw (append-nil done) h }
+pub gains_none : (plain : List ℕ) (kept : Kept) → Gains [] plain kept plain kept
+gains_none plain kept = record { size = omega arith; room = refl; keeps = λ done h. rw (append-nil done) h }
 
 -- what two steps add, one after the other
 pub gains_then : {a b : List Bool} {plain₀ plain₁ plain₂ : List ℕ} {kept₀ kept₁ kept₂ : Kept} → Gains a plain₀ kept₀ plain₁ kept₁ → Gains b plain₁ kept₁ plain₂ kept₂ → Gains (a ++ b) plain₀ kept₀ plain₂ kept₂
 gains_then {a} {b} x y = record {
   size = omega (arith, x.size, y.size, length-append a b);
-  low = y.low;
   room = y.room ∙ x.room;
   keeps = λ done h. rw (append_assoc done a b) at (y.keeps (done ++ a) (x.keeps done h));
 }

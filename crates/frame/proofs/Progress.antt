@@ -245,12 +245,12 @@ module _ (B : List Bool) (start : ℕ) (plain : List ℕ) (kept : Kept) (t at : 
   found_content count plain' found hc e = found_end count plain' found (closes (kept_told t) (drop (at + 1) B)) hc refl e
 
 -- nothing was read yet: the window has a zero behind five ones
-pub lined_start : (B : List Bool) (start : ℕ) (plain : List ℕ) → Lined B start plain (record { size = 0; rest = 0 }) 992 start
+pub lined_start : (B : List Bool) (start : ℕ) (plain : List ℕ) (kept : Kept) → kept.size ≡ 0 → kept.rest ≡ 0 → Lined B start plain kept 992 start
 unfolding number count_leading_zeros
-lined_start B start plain =
+lined_start B start plain kept none rest =
     record {
       done = [];
-      keeps = record { size = refl; whole = λ k a b. go k a; rest = refl };
+      keeps = record { size = none; whole = λ k a b. go k a; rest = rest };
       goes = scan_is (drop start B);
       few = omega arith;
       six = λ e. absurd (let z : ◌≡◌ {A = ℕ} 0 1 = cc in omega arith);

@@ -57,9 +57,9 @@ low_bits_append m n v =
 -- ---- bits taken
 
 -- none
-pub passes_none : (w : ℕ) (plain : List ℕ) (kept : Kept) → kept.rest < 2 ^ (kept.size % 8) → Passes w 0 plain kept plain kept
+pub passes_none : (w : ℕ) (plain : List ℕ) (kept : Kept) → Passes w 0 plain kept plain kept
 unfolding low_bits takens NoSix
-passes_none w plain kept low = record { no_six = tt; gains = gains_none plain kept low }
+passes_none w plain kept = record { no_six = tt; gains = gains_none plain kept }
 
 -- bits of which none stands behind five ones
 pub passes_whole : (w n : ℕ) {plain₀ plain₁ : List ℕ} {kept₀ kept₁ : Kept} → ((i : ℕ) → i < n → five_ones (w / 64 / 2 ^ i) ≡ false)
@@ -67,9 +67,9 @@ pub passes_whole : (w n : ℕ) {plain₀ plain₁ : List ℕ} {kept₀ kept₁ :
 passes_whole w n h g = let x = whole n w h in record { no_six = x.1; gains = rw x.0 g }
 
 -- an inserted zero
-passes_zero : (w : ℕ) (plain : List ℕ) (kept : Kept) → kept.rest < 2 ^ (kept.size % 8) → left_told (w % 2048) ≡ 0 → odd (w / 2048) ≡ false → Passes w 1 plain kept plain kept
+passes_zero : (w : ℕ) (plain : List ℕ) (kept : Kept) → left_told (w % 2048) ≡ 0 → odd (w / 2048) ≡ false → Passes w 1 plain kept plain kept
 unfolding low_bits takens NoSix
-passes_zero w plain kept low z e = record { no_six = rw e (λ q. absurd (let z : ◌≡◌ {A = ℕ} 0 1 = cc in omega arith), tt); gains = rw (z, e) (gains_none plain kept low) }
+passes_zero w plain kept z e = record { no_six = rw e (λ q. absurd (let z : ◌≡◌ {A = ℕ} 0 1 = cc in omega arith), tt); gains = rw (z, e) (gains_none plain kept) }
 
 -- one after the other
 passes_then : (w m n : ℕ) {plain₀ plain₁ plain₂ : List ℕ} {kept₀ kept₁ kept₂ : Kept} → Passes w m plain₀ kept₀ plain₁ kept₁ → Passes (w / 2 ^ m) n plain₁ kept₁ plain₂ kept₂
@@ -138,13 +138,13 @@ pub record Passed (w : ℕ) (plain₀ : List ℕ) (kept₀ : Kept) (plain : List
   pub fits : runs < 2 ^ (8 - place)
   pub passes : Passes w place plain₀ kept₀ plain kept
 
-pub passed_none : (w fives : ℕ) (plain : List ℕ) (kept : Kept) → Able kept 8 → fives < 256 → MarksFives 8 fives w → Passed w plain kept plain kept w fives 0
-passed_none w fives plain kept able fits marks = record {
+pub passed_none : (w fives : ℕ) (plain : List ℕ) (kept : Kept) → fives < 256 → MarksFives 8 fives w → Passed w plain kept plain kept w fives 0
+passed_none w fives plain kept fits marks = record {
   few = omega arith;
   here = sym (div-one w);
   marks = marks;
   fits = fits;
-  passes = passes_none w plain kept able.0;
+  passes = passes_none w plain kept;
 }
 
 module _ {w : ℕ} {plain₀ : List ℕ} {kept₀ : Kept} {plain : List ℕ} {kept : Kept} {word runs place : ℕ} (x : Passed w plain₀ kept₀ plain kept word runs place) where
@@ -152,7 +152,7 @@ module _ {w : ℕ} {plain₀ : List ℕ} {kept₀ : Kept} {plain : List ℕ} {ke
   pub passed_able : Able kept₀ 8 → Able kept (8 - place)
   passed_able able =
       let bs = low_bits place (w / 2048) in
-      (x.passes.gains.low, omega (arith, able.1, x.few, x.passes.gains.size, takens_few (left_told (w % 2048)) bs, length_low_bits place (w / 2048)))
+      omega (arith, able, x.few, x.passes.gains.size, takens_few (left_told (w % 2048)) bs, length_low_bits place (w / 2048))
 
   -- they are no more than eight
   pub passed_rest : w < 524288 → word / 2048 < 2 ^ (8 - place)
@@ -213,5 +213,5 @@ module _ {w : ℕ} {plain₀ : List ℕ} {kept₀ : Kept} {plain : List ℕ} {ke
             here = ap (λ (v : ℕ). v / 2) there ∙ shr-shr w (place + z) 1;
             marks = rw (m, shr-shr word z 1, shr-shr runs z 1) (marks_behind (8 - place) (z + 1) runs word (omega (arith, first.few)) x.marks);
             fits = rw (m, shr-shr runs z 1) (shr_lt (8 - place - (z + 1)) (z + 1) (rw f x.fits));
-            passes = passes_then w (place + z) 1 part (rw there at (passes_zero (word / 2 ^ z) plain₁ kept₁ part.gains.low spent (ne_eqb (word / 2 ^ z / 2048 % 2) 1 o)));
+            passes = passes_then w (place + z) 1 part (rw there at (passes_zero (word / 2 ^ z) plain₁ kept₁ spent (ne_eqb (word / 2 ^ z / 2048 % 2) 1 o)));
           }

@@ -1,21 +1,17 @@
 -- Inner: a content as the reader takes it, eight bits of a run at a time: what is kept of it, what the last bits tell of the next, and what is found.
 -- Assumes nothing.
-use Rattle.std.specs.Prelude.{ℕ, ◌+◌, ◌-◌, ◌*◌, ◌/◌, ◌%◌, ◌^◌, ◌<◌, ◌≤◌, Bool, true, not, Option, Some, None, List, ◌++◌, ◌≡◌, eqb, length, take, drop}
+use Rattle.std.specs.Prelude.{ℕ, ◌+◌, ◌-◌, ◌*◌, ◌/◌, ◌%◌, ◌^◌, ◌<◌, ◌≤◌, Bool, true, not, Option, Some, None, List, ◌++◌, ◌≡◌, eqb, length, drop}
 use Rattle.std.specs.Int.Count.{count_leading_zeros}
-use Rattle.octets.specs.Bits.{bits, number, odd}
+use Rattle.octets.specs.Bits.{number, odd}
 use Rattle.octets.specs.Places.{pick, last_place}
 use Rattle.frame.specs.Stuffing.{Cutting, uncut, cut_into}
 use Rattle.frame.specs.Pen.{low_bits}
-use Rattle.frame.specs.Inner.{takens, NoSix, closes}
+use Rattle.frame.specs.Inner.{Stands, takens, NoSix, closes}
 use Rattle.frame.specs.declared.Kept.{Kept}
 use Rattle.std.specs.declared.ops.ControlFlow.{ControlFlow}
 use Rattle.std.specs.declared.ops.ControlFlow.TheVariants.{Continue, Break}
 use Rattle.frame.specs.declared.Sixth.{Sixth}
 use Rattle.frame.specs.declared.Found.{Found}
-
--- the first n of the bits bs stand in plain, as many as it has room for
-abbrev pub Stands : ℕ → List Bool → List ℕ → Type 0
-Stands n bs plain = (k : ℕ) → k ≤ n → k ≤ length plain * 8 → take k (bits plain) ≡ take k bs
 
 -- the bits bs were kept: the whole octets of them stand in plain, the others are at hand
 pub record Keeps (bs : List Bool) (plain : List ℕ) (kept : Kept) : Type 0 where
@@ -23,14 +19,13 @@ pub record Keeps (bs : List Bool) (plain : List ℕ) (kept : Kept) : Type 0 wher
   pub whole : Stands (length bs / 8 * 8) bs plain
   pub rest : kept.rest ≡ number (drop (length bs / 8 * 8) bs)
 
--- width bits more can be kept and counted
+-- width bits more can be counted
 abbrev pub Able : Kept → ℕ → Type 0
-Able kept width = (kept.rest < 2 ^ (kept.size % 8)) × (kept.size + width ≤ last_place)
+Able kept width = kept.size + width ≤ last_place
 
 -- the bits bs are kept behind whatever was kept before
 pub record Gains (bs : List Bool) (plain₀ : List ℕ) (kept₀ : Kept) (plain₁ : List ℕ) (kept₁ : Kept) : Type 0 where
   pub size : kept₁.size ≡ kept₀.size + length bs
-  pub low : kept₁.rest < 2 ^ (kept₁.size % 8)
   pub room : length plain₁ ≡ length plain₀
   pub keeps : (done : List Bool) → Keeps done plain₀ kept₀ → Keeps (done ++ bs) plain₁ kept₁
 

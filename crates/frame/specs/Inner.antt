@@ -1,6 +1,7 @@
 -- Inner: bits of a content taken one after the other.
 -- Assumes nothing.
-use Rattle.std.specs.Prelude.{ℕ, zero, suc, ◌-◌, ◌<◌, Bool, true, false, List, [], ◌∷◌, ◌++◌, ◌≡◌}
+use Rattle.std.specs.Prelude.{ℕ, zero, suc, ◌-◌, ◌<◌, ◌*◌, ◌≤◌, Bool, true, false, List, [], ◌∷◌, ◌++◌, ◌≡◌, length, take}
+use Rattle.octets.specs.Bits.{bits}
 
 -- what a bit adds to the content, where k ones may still come
 abbrev pub taken : ℕ → Bool → List Bool
@@ -43,3 +44,7 @@ closes true [] = false
 closes true (true ∷ r) = false
 closes true (false ∷ r) = true
 closes false r = false
+
+-- the first n of the bits bs stand in plain, as many as it has room for
+abbrev pub Stands : ℕ → List Bool → List ℕ → Type 0
+Stands n bs plain = (k : ℕ) → k ≤ n → k ≤ length plain * 8 → take k (bits plain) ≡ take k bs

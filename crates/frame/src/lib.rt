@@ -1,7 +1,7 @@
 // Frames of V.8 bis 7.2: the frame reader and the frame writer. Bits are packed with bit 1 of each octet first.
 #![tactic(auto)]
 
-ghost use Rattle.std.specs.Prelude.{◌≡◌, Bool, true, List, [], ℕ, ◌+◌, ◌-◌, ◌*◌, ◌/◌, ◌%◌, ◌^◌, ◌≤◌, ◌<◌, length, get_or, set, take, drop};
+ghost use Rattle.std.specs.Prelude.{◌≡◌, Bool, true, List, [], ℕ, ◌+◌, ◌-◌, ◌*◌, ◌/◌, ◌%◌, ◌^◌, ◌≤◌, ◌<◌, length, set, drop};
 ghost use Rattle.octets.specs.Bits.{bits, number, oct_before, packed};
 ghost use Rattle.octets.specs.Lay.{put};
 ghost use Rattle.octets.specs.Places.{last_place};
@@ -11,7 +11,7 @@ ghost use Rattle.frame.specs.Frame.{flags, flags_at, content, frame, framed};
 ghost use Rattle.frame.specs.Reader.{checked, alone, Reads};
 ghost use Rattle.frame.specs.Pen.{low_bits, Holds};
 ghost use Rattle.frame.specs.Zeros.{five_starts, Widens};
-ghost use Rattle.frame.specs.Content.{Able, Gains, MarksFives, TakenAs, Ends, Stands, Finds};
+ghost use Rattle.frame.specs.Inner.{Stands};
 ghost use Rattle.frame.specs.Limits.{most_information, most_bits, information_room, frame_room, most_opening, most_closing, most_content};
 ghost use Rattle.frame.specs.Promises.{FrameReads, FrameWrites};
 
@@ -92,7 +92,7 @@ fn with_zeros(start: u32, starts: u32) -> Wide
     // Each turn takes a mark and what stands below it, so the marks that are left are the loop's state.
     while found != 0 {
         let width = u32::trailing_zeros(found) + 5;
-        found = found >> width;
+        found >>= width;
         place += width;
         word += (word >> place) << place;
         place += 1;
@@ -265,6 +265,7 @@ struct Found {
 struct Kept {
     size: usize,
     rest: u32,
+    ghost low: { rest < 2 ^ (size % 8) },
 }
 
 // Stores an octet where there is room for it.
@@ -273,28 +274,6 @@ fn store_octet(plain: &mut [u8], i: usize, octet: u8)
 {
     if i < plain.len() {
         plain[i] = octet;
-    }
-}
-
-// Adds the width lowest bits of a value to the content.
-fn keep_bits(plain: &mut [u8], kept: Kept, value: u32, width: usize) -> Kept
-    requires { (value < 2 ^ width) × (width ≤ 8) × Able kept width }
-    ensures { Gains (low_bits width value) plain.old kept plain.new result }
-{
-    let size = kept.size;
-    let rest = kept.rest;
-    let shift = size % 8;
-    let both = rest + (value << shift);
-    if shift + width < 8 {
-        return Kept {
-            size: size + width,
-            rest: both,
-        };
-    }
-    store_octet(plain, size / 8, (both % 256) as u8);
-    Kept {
-        size: size + width,
-        rest: both / 256,
     }
 }
 
@@ -315,48 +294,81 @@ struct Sixth {
     real: bool,
 }
 
-// Takes the eight highest bits of a line, up to each one behind five ones and the rest. The bits before them tell what such a bit is.
-fn take_fives(plain: &mut [u8], start: Kept, line: u32, fives: u32) -> ControlFlow<Sixth, Kept>
-    requires { Able start 8 × (fives < 256) × MarksFives 8 fives (line / 8192) }
-    ensures { TakenAs (line / 8192) plain.old start plain.new result }
-{
-    let mut kept = start;
-    let mut word = line >> 13;
-    let mut runs = fives;
-    let mut place = 0usize;
-    // As in `with_zeros`, the marks that are left are the loop's state.
-    while runs != 0 {
-        let zeros = u32::trailing_zeros(runs);
-        let width = zeros as usize;
-        let octet = (word >> 11) as u8;
-        kept = keep_bits(plain, kept, lowest(octet, width) as u32, width);
-        word = word >> zeros;
-        place += width;
-        if (word >> 11) % 2 == 1 {
-            return ControlFlow::Break(Sixth {
-                kept,
-                place,
-                real: word % 32 != 31,
-            });
-        }
-        word = word >> 1;
-        runs = (runs >> zeros) >> 1;
-        place += 1;
-    }
-    ControlFlow::Continue(keep_bits(plain, kept, word >> 11, 8 - place))
-}
+impl Kept {
+    ghost use Rattle.frame.specs.Content.{Able, Gains, MarksFives, TakenAs};
 
-// Takes the eight highest bits of a line, at once where none of them stands behind five ones.
-fn take_octet(plain: &mut [u8], kept: Kept, line: u32) -> ControlFlow<Sixth, Kept>
-    requires { Able kept 8 }
-    ensures { TakenAs (line / 8192) plain.old kept plain.new result }
-{
-    let word = line >> 19;
-    let fives = five_starts(word, word >> 4) % 256;
-    if fives != 0 {
-        return take_fives(plain, kept, line, fives);
+    // Nothing yet.
+    fn none() -> Kept
+        ensures { (result.size ≡ 0) × (result.rest ≡ 0) }
+    {
+        Kept { size: 0, rest: 0 }
     }
-    ControlFlow::Continue(keep_bits(plain, kept, line >> 24, 8))
+
+    // Adds the width lowest bits of a value to the content.
+    fn keep_bits(self, plain: &mut [u8], value: u32, width: usize) -> Kept
+        requires { (value < 2 ^ width) × (width ≤ 8) × Able self width }
+        ensures { Gains (low_bits width value) plain.old self plain.new result }
+    {
+        let size = self.size;
+        let rest = self.rest;
+        let shift = size % 8;
+        let both = rest + (value << shift);
+        if shift + width < 8 {
+            return Kept {
+                size: size + width,
+                rest: both,
+            };
+        }
+        store_octet(plain, size / 8, (both % 256) as u8);
+        Kept {
+            size: size + width,
+            rest: both / 256,
+        }
+    }
+
+    // Takes the eight highest bits of a line, up to each one behind five ones and the rest. The bits before them tell what such a bit is.
+    fn take_fives(self, plain: &mut [u8], line: u32, fives: u32) -> ControlFlow<Sixth, Kept>
+        requires { Able self 8 × (fives < 256) × MarksFives 8 fives (line / 8192) }
+        ensures { TakenAs (line / 8192) plain.old self plain.new result }
+    {
+        let mut kept = self;
+        let mut word = line >> 13;
+        let mut runs = fives;
+        let mut place = 0usize;
+        // As in `with_zeros`, the marks that are left are the loop's state.
+        while runs != 0 {
+            let zeros = u32::trailing_zeros(runs);
+            let width = zeros as usize;
+            let octet = (word >> 11) as u8;
+            kept = kept.keep_bits(plain, lowest(octet, width) as u32, width);
+            word = word >> zeros;
+            place += width;
+            if (word >> 11) % 2 == 1 {
+                return ControlFlow::Break(Sixth {
+                    kept,
+                    place,
+                    real: word % 32 != 31,
+                });
+            }
+            word = word >> 1;
+            runs = (runs >> zeros) >> 1;
+            place += 1;
+        }
+        ControlFlow::Continue(kept.keep_bits(plain, word >> 11, 8 - place))
+    }
+
+    // Takes the eight highest bits of a line, at once where none of them stands behind five ones.
+    fn take_octet(self, plain: &mut [u8], line: u32) -> ControlFlow<Sixth, Kept>
+        requires { Able self 8 }
+        ensures { TakenAs (line / 8192) plain.old self plain.new result }
+    {
+        let word = line >> 19;
+        let fives = five_starts(word, word >> 4) % 256;
+        if fives != 0 {
+            return self.take_fives(plain, line, fives);
+        }
+        ControlFlow::Continue(self.keep_bits(plain, line >> 24, 8))
+    }
 }
 
 // Checks the content of so many bits, which stand in plain where they are not too many, and gives out its information.
@@ -397,6 +409,7 @@ struct Run<'a> {
 
 impl<'a> Run<'a> {
     ghost use Rattle.frame.specs.Run.{seen};
+    ghost use Rattle.frame.specs.Content.{Ends, Finds};
 
     // Whether a flag begins at a place.
     fn flag_at(self, at: usize) -> bool
@@ -453,12 +466,12 @@ impl<'a> Run<'a> {
         requires { start ≤ self.count }
         ensures { Finds (content_from 5 (drop start (seen self.entry))) (seen self.entry) self.entry.count plain.new result }
     {
-        let mut kept = Kept { size: 0, rest: 0 };
+        let mut kept = Kept::none();
         let mut line = FIRST_LINE;
         for here in (start..self.count).step_by(8) {
             let octet = octet_at(self.octets, here);
             line = (line >> 8) + ((octet as u32) << 24);
-            match take_octet(plain, kept, line) {
+            match kept.take_octet(plain, line) {
                 ControlFlow::Continue(next) => kept = next,
                 ControlFlow::Break(sixth) => return self.end_content(here, sixth, plain),
             }

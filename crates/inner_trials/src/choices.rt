@@ -1,4 +1,4 @@
-// Operations 32 to 35: own table and wishes, choice and verdict.
+// Operations 32 to 35: own table and wishes, choice and verdict. Each takes other pieces of a request, in its own order.
 use choice::Pick;
 use wire::{RUN_LIMIT, Reply, Request};
 

@@ -5,10 +5,10 @@
 use station::Event;
 use table::{OnCrD, OnCrE, OnMrD, OnMrE, Phase, Settings, State};
 
-// What is told of a refusal stands above this: C gets one number.
+// A refusal's number is told above this: C gets one number.
 const REFUSED: u64 = 1000;
 
-// All that can be offered is offered.
+// All that can be offered is offered: a program's own settings, as each program has its own.
 fn settings() -> Settings {
     Settings {
         v8: true,

@@ -179,7 +179,7 @@ pub struct Parts {
 }
 
 // A message with fields: I, then S, then what is behind S decides. Asked only for the ends of the fields, the back end keeps no form
-// of theirs on the stack; an error made of each end by the library takes 50 octets of ROM more, and the C header leaves no room.
+// of theirs on the stack.
 fn check_fields(s: &[u8], kind: MessageType) -> Result<Parts, MessageFault>
     requires { (0 < length s.now) × (length s.now ≤ most_octets) × (known (type_of s.now) ≡ true) × (has_fields (type_of s.now) ≡ true) × (type_number kind ≡ type_of s.now) }
     ensures { Checks s.now result }

@@ -132,21 +132,12 @@ fn head_of_step(stepped: Stepped) -> Reply {
     let refusal = stepped.told.err();
     let mut reply = Reply::new(refusal.map_or(0, |refusal| refusal as u8));
     put_phase(&mut reply, state.phase);
+    // the probe's own numbers of signals, from 1 on: 0 is none
     reply.put_u8(stepped.signal.map_or(0, |signal| signal as u8 + 1));
     reply.put_count(stepped.first);
     reply.put_count(stepped.second);
     reply.put_count(stepped.stored);
     reply
-}
-
-// A signal that is sent, by the probe's own numbers: no rule has any. 0 stands for none.
-fn number_of_signal(signal: Signal) -> u8 {
-    match signal {
-        Signal::MrE => 1,
-        Signal::MrD => 2,
-        Signal::CrE => 3,
-        Signal::CrD => 4,
-    }
 }
 
 // A phase: its number, entry u64, wish u8, ACK asked u8.

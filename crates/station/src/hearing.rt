@@ -38,6 +38,7 @@ fn hear_field(field: &[u8]) -> Option<(Heard, usize)>
 }
 
 // What an event is to the table, likewise.
+// Where no field was heard the place is 0, and never looked at: an Option would have an arm in `perform` that no act reaches.
 pub(crate) fn hear(event: Event, field: &[u8]) -> Option<(Heard, usize)>
     ensures { Hears event field.now result }
 {

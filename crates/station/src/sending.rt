@@ -69,6 +69,7 @@ fn first_octet(kind: MessageType) -> u8
 }
 
 // Puts an MS, a CL or a CLR. Its standard field is put as it is, since it is minimal.
+// The field is an argument of its own, no part of a `Fields`: only so is each of its octets known to be under 256.
 fn put_message(kind: MessageType, offer: Offer, standard: &[u8], out: &mut [u8]) -> usize
     requires { (type_number kind ≤ 3) × (good_field standard.now ≡ true) × (64 ≤ length out.old) }
     ensures { (result ≡ length (sent_field (type_number kind) offer (standard_codes standard.now))) × (out.new ≡ put (sent_field (type_number kind) offer (standard_codes standard.now)) out.old) × (result ≤ 31) }

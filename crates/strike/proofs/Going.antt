@@ -1,5 +1,5 @@
--- A field rewritten piece by piece: octets put one run after the other; the octets of several positions, of those set in an octet and
--- of those set in a block; and the pieces that a group, a Par(2) block and a field are made of.
+-- A field rewritten piece by piece: octets put one run after the other; the octets of several positions, and of those set in a block;
+-- and the pieces that a group, a Par(2) block and a field are made of.
 -- Assumes nothing.
 use Prim.Native.Nat.{ℕ, zero, suc, ◌+◌, ◌-◌, ◌*◌, ◌%◌, ◌≤◌, ◌<◌}
 use mathlib.Core.Path.{◌≡◌, refl, sym, ap, ◌∙◌}
@@ -184,9 +184,6 @@ module _ {one : ℕ → ℕ → List ℕ} {many : List ℕ → ℕ → List ℕ}
     going_room h =
         let e = ap length (many_append qs todo spot.from) in
         omega (arith, g.at, g.long, e, length-append (many qs spot.from) (many todo (pasts (length qs) spot.from)))
-
-    pub going_fine : fines (length qs) spot.from
-    going_fine = (fines_parts qs todo spot.from g.fine).0
 
     pub going_turn : {out₁ : List ℕ} {spot₁ : Spot} → Puts (many qs spot.from) (pasts (length qs) spot.from) out spot.to out₁ spot₁
         → Going many pasts fines size all start out₀ todo out₁ spot₁

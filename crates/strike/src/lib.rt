@@ -64,7 +64,8 @@ impl From<MessageFault> for StrikeRefusal {
     }
 }
 
-// Whether a position is kept; behind the 32nd none has a bit. A match, since a proof does not see what a closure answers.
+// Whether a position is kept; behind the 32nd none has a bit. A match: of a closure in `is_none_or` the
+// proof sees what one function called there promises, and not these steps: that the answer is the bit would be left to show.
 fn is_kept(places: Option<u32>, q: u32) -> bool
     requires { 0 < q }
     ensures { result ≡ kept_place places q }
@@ -76,7 +77,8 @@ fn is_kept(places: Option<u32>, q: u32) -> bool
 }
 
 // What of the octets of a block is kept, from one of them on: the names, as one number, and how many of them an octet has. Where all is
-// kept, the names are seven ones that stay.
+// kept, the names are seven ones that stay: 127 and a step of 0, so that one loop serves both.
+// A level and places go from function to function without it: it moves on octet by octet, and each pass over a block makes it anew.
 #[derive(Clone, Copy)]
 struct Sieve {
     level: Level,
@@ -293,6 +295,7 @@ impl<'a> Source<'a> {
         let middle = self.put_block(Level::Low, npars, spot, out);
         let end = self.put_group(c, middle, out);
         let last = end.to - 1;
+        // By hand: `mark_last` takes 1.05 times the instructions on 64 deep octets, and 240 octets more of code.
         out[last] = out[last] % 128 + 128;
         end
     }

@@ -1,4 +1,4 @@
-// Operations 1 and 2: the frame reader and the frame writer.
+// Operations 1 and 2: the frame reader and the frame writer. Each takes other pieces of a request, in its own order.
 use wire::{RUN_LIMIT, Reply, Request};
 
 // Request: bits u32, run, out. Reply: no u8, octets u16, out.

@@ -8,6 +8,7 @@ mod messages;
 use wire::{Reply, Request};
 
 // Has a request's operation carried out; no reply where it is none of these, or where the request is none.
+// This is the table of the crate's operations, by their numbers.
 pub fn carry_out(operation: u8, request: Request<'_>) -> Option<Reply> {
     match operation {
         1 => frames::frame_reader(request),

@@ -1,4 +1,4 @@
-// Operations 3, 4 and 5: the message reader, the message writer and striking.
+// Operations 3, 4 and 5: the message reader, the message writer and striking. Each takes other pieces of a request, in its own order.
 use message::Message;
 use wire::{RUN_LIMIT, Reply, Request};
 

@@ -31,6 +31,7 @@ impl<'a> Request<'a> {
         Some(*octets)
     }
 
+    // One method for each width: the width of an array is a constant, which is not computed from a type.
     pub fn u8(&mut self) -> Option<u8> {
         Some(u8::from_le_bytes(self.number()?))
     }

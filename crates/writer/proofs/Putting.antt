@@ -30,7 +30,7 @@ use Rattle.meaning.proofs.Growing.{within_wider, cut_within, run_from}
 use Rattle.meaning.proofs.Meanings.{meaning_cut, within_between, between_within}
 use Rattle.writer.proofs.Parents.{empty_some}
 use Rattle.writer.proofs.Heads.{field_written, marked_both, heads_next}
-use Rattle.writer.specs.declared.TooLong.{TooLong}
+use Rattle.writer.specs.declared.Full.{Full}
 use Rattle.tree.specs.Levels.{width_of, mark_of}
 use Rattle.tree.specs.declared.Level.{Level}
 use Rattle.tree.specs.declared.Level.TheVariants.{Top, Low}
@@ -66,12 +66,12 @@ pub putting_all : {all old now : List ℕ} → Putting all [] old now → now �
 putting_all {now = now} x = sym (append-nil now) ∙ x.whole
 
 -- the last ones are put, or pass the end
-pub puts_last : {A : Type 0} {all a old now : List ℕ} (new : List ℕ) (r : Result A TooLong) → Putting all a old now → Puts a now new r → Puts all old new r
+pub puts_last : {A : Type 0} {all a old now : List ℕ} (new : List ℕ) (r : Result A Full) → Putting all a old now → Puts a now new r → Puts all old new r
 puts_last new (Ok v) x y = y ∙ x.whole
 puts_last new (Err e) x y = rw x.whole at y
 
 -- and octets put behind others
-pub puts_more : {A : Type 0} (old a b : List ℕ) {now : List ℕ} (new : List ℕ) (r : Result A TooLong) → now ≡ old ++ a → Puts b now new r → Puts (a ++ b) old new r
+pub puts_more : {A : Type 0} (old a b : List ℕ) {now : List ℕ} (new : List ℕ) (r : Result A Full) → now ≡ old ++ a → Puts b now new r → Puts (a ++ b) old new r
 puts_more old a b new (Ok v) x y = puts_then old a b x y
 puts_more old a b new (Err e) x y = puts_then_over old a b x y
 

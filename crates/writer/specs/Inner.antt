@@ -9,7 +9,7 @@ use Rattle.meaning.specs.Written.{block_octets, run, from, positions, marked}
 use Rattle.meaning.specs.Writing.{is_empty, refused, list_writing, write_message, unless_long, message_octets}
 use Rattle.writer.specs.Writer.{write_told}
 use Rattle.writer.specs.declared.MessageWriteRefusal.{MessageWriteRefusal}
-use Rattle.writer.specs.declared.TooLong.{TooLong}
+use Rattle.writer.specs.declared.Full.{Full}
 
 -- the number of a refusal
 abbrev pub number : MessageWriteRefusal → ℕ
@@ -28,7 +28,7 @@ pub record Drafts (kind revision : ℕ) (list ns : List ℕ) (kind₁ revision�
   pub writes : (room : ℕ) → most_octets ≤ room → write_message kind revision list ns room ≡ unless_long (message_octets kind₁ revision₁ list₁ ns₁)
 
 -- the octets were put behind those that a sheet had; or they would have passed its end, and what it has then does not matter
-abbrev pub Puts : {A : Type 0} → List ℕ → List ℕ → List ℕ → Result A TooLong → Type 0
+abbrev pub Puts : {A : Type 0} → List ℕ → List ℕ → List ℕ → Result A Full → Type 0
 Puts octets old new (Ok _) = new ≡ old ++ octets
 Puts octets old new (Err _) = most_octets < length (old ++ octets)
 

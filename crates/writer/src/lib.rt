@@ -227,7 +227,7 @@ impl<'a> Draft<'a> {
 
 // A sheet takes no octet more.
 #[derive(Clone, Copy)]
-struct TooLong;
+struct Full;
 
 // The octets of a message, put one behind the other: at most 64, in an array of that size, since there is no heap.
 #[derive(Drop)]
@@ -256,12 +256,12 @@ impl Sheet {
         }
     }
 
-    fn push(&mut self, octet: u8) -> Result<(), TooLong>
+    fn push(&mut self, octet: u8) -> Result<(), Full>
         ensures { Puts (octet ∷ []) self.old self.new result }
     {
         let size = self.size;
         if MOST_OCTETS <= size {
-            return Err(TooLong);
+            return Err(Full);
         }
         self.octets[size] = octet;
         self.size = size + 1;
@@ -285,7 +285,7 @@ impl Sheet {
     }
 
     // Passes octets of a block, count of them: the one at hand, and then such with nothing set.
-    fn pass_octets(&mut self, octet: u8, count: u32) -> Result<(), TooLong>
+    fn pass_octets(&mut self, octet: u8, count: u32) -> Result<(), Full>
         ensures { Puts (skipped count octet) self.old self.new result }
     {
         let mut next = octet;
@@ -297,7 +297,7 @@ impl Sheet {
     }
 
     // Puts the minimal block of those codes of a list that stand a multiple of a step above a base.
-    fn put_block(&mut self, list: &[u32], base: u32, step: u32, level: Level) -> Result<(), TooLong>
+    fn put_block(&mut self, list: &[u32], base: u32, step: u32, level: Level) -> Result<(), Full>
         requires { Between base (base + 512 * step) list.now × (0 < step) × (base + 512 * step < 4294967296) }
         ensures { Puts (block_octets (width_of level) (mark_of level) (positions step base list.now)) self.old self.new result }
     {
@@ -325,7 +325,7 @@ impl Sheet {
     }
 
     // Puts SPar(2) of the codes behind a head's block, if the head is an SPar(1) and there is any.
-    fn put_lower(&mut self, list: &[u32], head: u32) -> Result<(), TooLong>
+    fn put_lower(&mut self, list: &[u32], head: u32) -> Result<(), Full>
         requires { Between head (field_base 3) list.now × (head < field_base 3) }
         ensures { Puts (lower_block head list.now) self.old self.new result }
     {
@@ -340,7 +340,7 @@ impl Sheet {
     }
 
     // Puts the Par(2) blocks of a field's codes, from its first SPar(1) on: head by head, each a code with something under it.
-    fn put_pars(&mut self, list: &[u32]) -> Result<(), TooLong>
+    fn put_pars(&mut self, list: &[u32]) -> Result<(), Full>
         requires { Between 0 (field_base 3) list.now }
         ensures { Puts (heads_from 0 list.now) self.old self.new result }
     {
@@ -358,7 +358,7 @@ impl Sheet {
     }
 
     // Puts the field of the codes above a base.
-    fn put_field(&mut self, list: &[u32], base: u32) -> Result<(), TooLong>
+    fn put_field(&mut self, list: &[u32], base: u32) -> Result<(), Full>
         requires { Between base (base + of_f) list.now × (base ≤ field_base 2) }
         ensures { Puts (field_put base list.now) self.old self.new result }
     {
@@ -369,7 +369,7 @@ impl Sheet {
     }
 
     // Puts octets as they are.
-    fn put_run(&mut self, run: &[u8]) -> Result<(), TooLong>
+    fn put_run(&mut self, run: &[u8]) -> Result<(), Full>
         ensures { Puts run.now self.old self.new result }
     {
         for &octet in run {
@@ -379,7 +379,7 @@ impl Sheet {
     }
 
     // Puts I, S and NS.
-    fn put_fields(&mut self, codes: Codes, ns: &[u8]) -> Result<(), TooLong>
+    fn put_fields(&mut self, codes: Codes, ns: &[u8]) -> Result<(), Full>
         ensures { Puts (fields_put codes.entry.list.now ns.now) self.old self.new result }
     {
         let (first, second) = cut(codes.list, STANDARD);
@@ -389,7 +389,7 @@ impl Sheet {
     }
 
     // Puts octet 1, and the fields where the type has any.
-    fn put_message(&mut self, m: Draft) -> Result<(), TooLong>
+    fn put_message(&mut self, m: Draft) -> Result<(), Full>
         ensures { Puts (message_octets m.entry.kind m.entry.revision m.entry.codes.list.now m.entry.ns.now) self.old self.new result }
     {
         self.push(m.revision * 16 + m.kind)?;
@@ -417,6 +417,6 @@ pub fn write_message(
     let mut sheet = Sheet::new();
     match sheet.put_message(draft) {
         Ok(()) => Ok(sheet.send(out)),
-        Err(TooLong) => Err(MessageWriteRefusal::TooLong),
+        Err(Full) => Err(MessageWriteRefusal::TooLong),
     }
 }

@@ -1,23 +1,29 @@
--- `fill::put_four` meets its contract: four stores, one behind the other.
+-- `fill::put_four` meets its contract: where there is room for all four octets, they are one run laid over the list.
 -- Assumes nothing.
+use Prim.Native.Nat.{ℕ, ◌+◌, ◌-◌, ◌/◌, ◌%◌, ◌≤◌}
+use mathlib.Core.Path.{◌≡◌, sym, ◌∙◌}
+use mathlib.Core.List.{List, [], ◌∷◌, append_assoc}
 use native.Mathlib.Numerals.{towards_suc}
 use native.Mathlib.Omega.{arith}
-use lib.ListN.{length-set}
+use lib.ListN.{length}
+use lib.Seq.{sets-eq}
+use Rattle.std.proofs.lemmas.List.{drop-drop}
 use Rattle.tree.specs.Fields.{fours}
+use Rattle.fill.proofs.Stored.{fours-length}
 use Rattle.fill.proofs.put_four.Goals as goal
 
-pub bounds-list-i-then-i-list : goal.bounds-list-i-then-i-list
-bounds-list-i-then-i-list c = simp length-set (omega arith)
-
-pub bounds-list-i-then-i-list-2 : goal.bounds-list-i-then-i-list-2
-bounds-list-i-then-i-list-2 c = simp length-set (omega arith)
-
-pub bounds-list-i-then-i-list-3 : goal.bounds-list-i-then-i-list-3
-bounds-list-i-then-i-list-3 c = simp length-set (omega arith)
+-- the octets of a number are the four that a code is stored as
+octets_of : (c : ℕ) {o : List ℕ} → o ≡ c % 256 ∷ c / 256 % 256 ∷ c / 65536 % 256 ∷ c / 16777216 % 256 ∷ [] → o ≡ fours (c ∷ [])
+unfolding fours
+octets_of c e = e
 
 pub returns-then-i-list : goal.returns-then-i-list
-unfolding fours
-returns-then-i-list c = simp towards_suc
+returns-then-i-list c =
+    let a = c.args in
+    let four : c.copy_from_slice.new.self ≡ fours (a.c ∷ []) = c.copy_from_slice.ensures.after ∙ octets_of a.c c.to_le_bytes-octets.ensures in
+    let count : a.i + 4 - a.i ≡ length (fours (a.c ∷ [])) = omega (arith, fours-length (a.c ∷ [])) in
+    let room : a.i + length (fours (a.c ∷ [])) ≤ length a.list.now = omega (arith, fours-length (a.c ∷ []), c.if-i-list.true) in
+    rw (four, count, drop-drop) (sym (rw append_assoc at (sets-eq (fours (a.c ∷ [])) a.list.now a.i room)))
 
 pub returns : goal.returns
 unfolding fours
@@ -27,5 +33,6 @@ returns c =
       c.put_octet-3.ensures,
       c.put_octet-2.ensures,
       c.put_octet.ensures,
+      c.to_le_bytes-octets.ensures,
     )
     (simp towards_suc)

@@ -26,7 +26,7 @@ sizes b s at n few h =
 pub fill_block-first-requires : goal.fill_block-first-requires
 fill_block-first-requires g c =
     let a = c.args in
-    (omega arith, omega (arith, c.requires.0), omega (arith, sizes a.base a.self.run.now a.at a.n c.args.self.few c.requires.1))
+    (omega (arith, c.requires.0), omega (arith, sizes a.base a.self.run.now a.at a.n c.args.self.few c.requires.1))
 
 pub fill_pars-requires : goal.fill_pars-requires
 fill_pars-requires g c =

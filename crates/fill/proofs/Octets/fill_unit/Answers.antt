@@ -16,7 +16,7 @@ fill_bits-count-requires g c =
 
 pub fill_block-requires : goal.fill_block-requires
 fill_block-requires g c =
-    (omega arith, c.requires.1, omega (arith, c.fill_bits-count.ensures.0, ap length (bits_first c.args.code c.requires.0), c.requires.2))
+    (c.requires.1, omega (arith, c.fill_bits-count.ensures.0, ap length (bits_first c.args.code c.requires.0), c.requires.2))
 
 pub returns : goal.returns
 returns g c =

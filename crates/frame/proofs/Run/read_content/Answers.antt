@@ -3,17 +3,16 @@ use Prim.Native.Nat.{◌+◌, ◌/◌}
 use native.Mathlib.Omega.{arith}
 use Rattle.frame.specs.Run.{seen}
 use Rattle.frame.proofs.Sights.{length_seen}
-use Rattle.frame.proofs.Keeping.{keeps_low}
 use Rattle.frame.proofs.Progress.{lined_start, lined_end, with_octet, octet_taken, six_kept, six_found}
 use Rattle.frame.proofs.Run.read_content.Goals as goal
 
 pub loop-here-init : goal.loop-here-init
-loop-here-init c = let a = c.args in lined_start (seen a.self) a.start a.plain.now
+loop-here-init c = let a = c.args in lined_start (seen a.self) a.start a.plain.now c.none-kept.result c.none-kept.ensures.0 c.none-kept.ensures.1
 
 pub take_octet-requires : goal.take_octet-requires
 take_octet-requires c =
     let now = c.loop-here.invariant in
-    (keeps_low now.keeps, omega (arith, now.keeps.size, now.few, c.loop-here-test.true, c.args.self.few))
+    omega (arith, now.keeps.size, now.few, c.loop-here-test.true, c.args.self.few)
 
 pub loop-here-preserved : goal.loop-here-preserved
 loop-here-preserved c =

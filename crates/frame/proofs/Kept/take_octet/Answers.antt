@@ -1,4 +1,4 @@
--- `frame::take_octet` meets its contract: bits that are not marked are all taken (`passes_whole`). Assumes nothing.
+-- `frame::Kept::take_octet` meets its contract: bits that are not marked are all taken (`passes_whole`). Assumes nothing.
 use Prim.Native.Nat.{ℕ, ◌/◌, ◌%◌, ◌^◌}
 use mathlib.Core.Path.{◌≡◌, ap, ◌∙◌}
 use native.Mathlib.Omega.{arith}
@@ -7,7 +7,7 @@ use Rattle.octets.specs.Bits.{odd}
 use Rattle.frame.specs.Content.{five_ones}
 use Rattle.frame.proofs.Starts.{five_at}
 use Rattle.frame.proofs.Taking.{marks_none, octet_marks, passes_whole}
-use Rattle.frame.proofs.take_octet.Goals as goal
+use Rattle.frame.proofs.Kept.take_octet.Goals as goal
 
 pub take_fives-requires : goal.take_fives-requires
 take_fives-requires c =
