@@ -187,13 +187,13 @@ impl<'a> Quill<'a> {
     }
 
     // Puts the information and its FCS.
-    fn put_content(&mut self, info: &[u8])
-        requires { Room self.old (length (stuffed 4 (content info.now))) }
+    fn put_content(&mut self, info: &[u8], check: u16)
+        requires { (check ≡ number (fcs (bits info.now))) × Room self.old (length (stuffed 4 (content info.now))) }
         ensures { Puts (stuffed 4 (content info.now)) self.old self.new }
     {
-        let check = fcs_of(info).to_le_bytes();
+        let octets = check.to_le_bytes();
         let last = self.put_octets(0, info);
-        let _ = self.put_octets(last, &check);
+        let _ = self.put_octets(last, &octets);
     }
 
     // Stores the octet that the last bits did not fill; its unused bits are zero.
@@ -213,6 +213,9 @@ fn put_frame(info: &[u8], opening: usize, closing: usize, out: &mut [u8]) -> usi
     requires { (length info.now ≤ most_information) × (opening ≤ most_opening) × (closing ≤ most_closing) × (frame_room ≤ length out.old) }
     ensures { (result ≡ length (frame info.now opening closing)) × (out.new ≡ put (packed (frame info.now opening closing)) out.old) }
 {
+    // Before anything is written: where C lends an output that overlaps the information, the FCS is that of what was lent, and a reader
+    // finds out.
+    let check = fcs_of(info);
     // The opening flags fill octets.
     out[..opening].fill(FLAG);
     let mut quill = Quill {
@@ -221,7 +224,7 @@ fn put_frame(info: &[u8], opening: usize, closing: usize, out: &mut [u8]) -> usi
         word: 0,
         held: 0,
     };
-    quill.put_content(info);
+    quill.put_content(info, check);
     quill.put_flags(closing);
     let size = quill.at * 8 + (quill.held as usize);
     quill.put_last();

@@ -1,13 +1,14 @@
 -- A message whose parts are known, read: its codes are laid into both lists, and there is room for all of them in the one that is wanted.
 -- Assumes nothing.
 use Prim.Native.Nat.{ℕ, zero, suc, ◌+◌, ◌-◌, ◌<◌, ◌≤◌}
-use mathlib.Core.Path.{◌≡◌, refl, sym, ◌∙◌}
+use mathlib.Core.Path.{◌≡◌, refl, sym, ap, ◌∙◌}
 use mathlib.Core.Bool.{Bool, true, false}
 use mathlib.Core.List.{List}
 use native.Mathlib.Omega.{arith}
 use borrow.Author.Tests.{eqb-true, lt-ltb, le-ltb, leb-false}
 use lib.Dec.{eqb, ltb, leb}
 use lib.ListN.{length, get_or}
+use Rattle.octets.specs.Lay.{over}
 use Rattle.octets.specs.Places.{pick}
 use Rattle.octets.proofs.Laying.{over_fits}
 use Rattle.tree.specs.Fields.{fours}
@@ -118,6 +119,14 @@ module _ (l : List ℕ) (p : Parts) (due : check_told (Ok p) ≡ check_message l
   read_both list octets ns n list₁ octets₁ f w =
       accepts l list_room list octets list₁ octets₁ (type_of l) n ns (parted_accepted l p due) refl (rw codes_both f.count)
       (w.0 ∙ rw (told_ns.0, ← (tail_told l p due))) (w.1 ∙ sym told_ns.1) (rw codes_both f.list) (rw codes_both f.octets)
+
+-- a message without fields has no codes and no NS
+pub read_one : (l : List ℕ) (p : Parts) → check_told (Ok p) ≡ check_message l → (list octets : List ℕ) → has_fields (type_of l) ≡ false
+    → ReadsBoth l list_room list octets (Ok (record { kind = type_of l; revision = revision_of l; count = 0; ns = record { at = 0; length = 0 } })) list octets
+unfolding over fours
+read_one l p due list octets h =
+    let c = codes_none l h in
+    accepts l list_room list octets list octets (type_of l) 0 _ (parted_accepted l p due) refl (ap length (sym c)) (rw h) (rw h) (rw c) (rw c)
 
 -- a larger room is as good as the smallest
 pub room_read : (l : List ℕ) (room : ℕ) → list_room ≤ room → {list₀ octets₀ : List ℕ} {r : Result Message MessageReadRefusal} {list₁ octets₁ : List ℕ}

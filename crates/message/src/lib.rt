@@ -227,14 +227,25 @@ pub fn check_message(s: &[u8]) -> Result<Parts, MessageFault>
     })
 }
 
-// Reads a well-formed message, whose parts are known: its codes into both lists. Behind an ACK and a NAK there are none.
+// Reads a well-formed message, whose parts are known: its codes into both lists. Behind an ACK and a NAK there are none, and nothing is
+// gone over.
 fn read_parts(s: &[u8], parts: Parts, list: &mut [u32], octets: &mut [u8]) -> Message
     requires { Checks s.now (Ok parts) }
     ensures { ReadsBoth s.now list_room list.old octets.old (Ok result) list.new octets.new }
 {
+    let kind = s[0] % 16;
+    let revision = s[0] / 16;
+    if !has_fields(kind) {
+        return Message {
+            kind,
+            revision,
+            count: 0,
+            ns: Span { at: 0, length: 0 },
+        };
+    }
     Message {
-        kind: s[0] % 16,
-        revision: s[0] / 16,
+        kind,
+        revision,
         count: fill_fields(s, 1, parts.standard, list, octets),
         ns: ns_span(s, parts.tail),
     }

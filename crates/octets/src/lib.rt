@@ -93,5 +93,8 @@ pub fn copy_front(from: &[u8], count: usize, to: &mut [u8])
     ensures { CopiesFront from.now count to.old to.new }
 {
     let n = count.min(from.len()).min(to.len());
-    to[..n].copy_from_slice(&from[..n]);
+    // By a loop: of `copy_from_slice` the back end makes a call of memmove in a step, which a board need not have.
+    for j in 0..n {
+        to[j] = from[j];
+    }
 }

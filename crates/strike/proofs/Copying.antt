@@ -1,6 +1,6 @@
 -- Octets put one after the other.
 -- Assumes nothing.
-use Prim.Native.Nat.{ℕ, ◌+◌}
+use Prim.Native.Nat.{ℕ, ◌+◌, ◌<◌, ◌≤◌}
 use mathlib.Core.List.{List, [], ◌∷◌}
 use mathlib.Core.Path.{◌≡◌, refl, ap, ◌∙◌}
 use native.Mathlib.Numerals.{add-one}
@@ -25,6 +25,10 @@ lays_turn {all} {todo} {rest} {out₀} {out} {at₀} {at} x l e =
       count = omega (arith, l.count, ap length e);
       puts = rw (add-one at) (rw e at l.puts);
     }
+
+-- where there is room for all, there is room for it
+pub lays_room : {all todo rest out₀ out : List ℕ} {at₀ at : ℕ} (x : ℕ) → Lays all todo at₀ out₀ at out → todo ≡ x ∷ rest → at₀ + length all ≤ length out₀ → at < length out
+lays_room x l e h = omega (arith, l.room, l.count, ap length e)
 
 -- nothing is left
 pub lays_all : {all todo out₀ out : List ℕ} {at₀ at : ℕ} → Lays all todo at₀ out₀ at out → todo ≡ [] → (at ≡ at₀ + length all) × (out ≡ sets out₀ at₀ all)

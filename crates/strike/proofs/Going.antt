@@ -10,7 +10,7 @@ use Rattle.tree.specs.Order.{Ascending, AllBelow}
 use Rattle.tree.proofs.Ascending.{numbers_between}
 use lib.ListN.{length, get_or, set, length-append}
 use lib.Seq.{sets, length-sets}
-use Rattle.tree.specs.Block.{numbers, behind, ended}
+use Rattle.tree.specs.Block.{set_bits, block_numbers, numbers, behind, ended}
 use Rattle.tree.specs.Codes.{subs_behind, group_behind, pars_behind, rest_behind, field_behind, of_s}
 use Rattle.tree.specs.Form.{form_at, group_form, pars_form}
 use Rattle.tree.specs.Form.{Fine}
@@ -126,6 +126,18 @@ pars_stepped k b p l = record {
   nothing = λ e. refl;
   both = λ n e h g. rw (h.0, h.1) g;
 }
+
+-- where the block is one octet with the delimiting bit alone, there is no position, and nothing is put
+no_position : (l : List ℕ) (e : ℕ) → get_or l e 0 ≡ 128 → numbers 7 128 0 l e ≡ []
+unfolding block_numbers set_bits
+no_position [] e h = absurd (omega (arith, h))
+no_position (o ∷ l) zero h = rw h refl
+no_position (o ∷ l) (suc e) h = no_position l e h
+
+pub pars_none : (k : Keep) (b : ℕ) (p : Option ℕ) (l : List ℕ) (e : ℕ) → get_or l e 0 ≡ 128 → (out : List ℕ) (start : Spot)
+    → Puts (pars_kept k b p (numbers 7 128 0 l e) l start.from) (pars_behind (length (numbers 7 128 0 l e)) l start.from) out start.to out start
+unfolding pars_kept pars_behind
+pars_none k b p l e h out start = rw (no_position l e h) (puts_none refl out start.to)
 
 -- of the octets that all positions give from a spot on, all but those that the positions still to come give from here on were put
 pub record Going (many : List ℕ → ℕ → List ℕ) (pasts : ℕ → ℕ → ℕ) (fines : ℕ → ℕ → Type 0) (size : ℕ) (all : List ℕ) (start : Spot) (out₀ : List ℕ) (todo out : List ℕ) (spot : Spot) : Type 0 where

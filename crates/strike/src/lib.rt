@@ -306,6 +306,10 @@ impl<'a> Source<'a> {
         requires { (e ≤ length self.s.now) × (start.from ≤ length self.s.now) × (pars_form (length (numbers 7 128 0 self.s.now e)) self.s.now start.from ≡ Fine) × (branch.base ≤ field_base 2) × (start.to + length (pars_kept self.keep branch.base branch.places (numbers 7 128 0 self.s.now e) self.s.now start.from) ≤ length out.old) }
         ensures { Puts (pars_kept self.entry.keep branch.base branch.places (numbers 7 128 0 self.entry.s.now e) self.entry.s.now start.from) (pars_behind (length (numbers 7 128 0 self.entry.s.now e)) self.entry.s.now start.from) out.old start.to out.new result }
     {
+        // Most often nothing is announced, and one octet tells so.
+        if octet_or_zero(self.s, e) == Level::Top.mark() {
+            return start;
+        }
         let mut spot = start;
         for q in positions(self.s, e, Level::Top) {
             spot = self.put_par(branch, q, spot, out);
@@ -361,10 +365,13 @@ fn put_rest(s: &[u8], from: usize, out: &mut [u8], to: usize) -> usize
     requires { (from ≤ length s.now) × (to + length (drop from s.now) ≤ length out.old) }
     ensures { (result ≡ to + length (drop from s.now)) × (out.new ≡ sets out.old to (drop from s.now)) }
 {
-    let rest = &s[from..];
-    let end = to + rest.len();
-    out[to..end].copy_from_slice(rest);
-    end
+    // By a loop: `copy_from_slice` is a call of memmove here, which a board need not have.
+    let mut at = to;
+    for i in from..s.len() {
+        out[at] = s[i];
+        at += 1;
+    }
+    at
 }
 
 // Puts the struck form of a well-formed message whose parts are known, and gives how many octets it has.

@@ -307,6 +307,10 @@ pub fn base_of(field: Field) -> u32
 pub fn has_spar(s: &[u8], at: usize) -> bool
     ensures { TellsSpar s.now at result }
 {
+    // Asked first, so that however many octets there are, no more than a message has are looked at.
+    if MOST_OCTETS < s.len() {
+        return false;
+    }
     positions(s, top_behind(s, at), Level::Top).next().is_some()
 }
 

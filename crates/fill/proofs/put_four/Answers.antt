@@ -1,7 +1,7 @@
 -- `fill::put_four` meets its contract: where there is room for all four octets, they are one run laid over the list.
 -- Assumes nothing.
 use Prim.Native.Nat.{ℕ, ◌+◌, ◌-◌, ◌/◌, ◌%◌, ◌≤◌}
-use mathlib.Core.Path.{◌≡◌, sym, ◌∙◌}
+use mathlib.Core.Path.{◌≡◌, refl, sym, ◌∙◌}
 use mathlib.Core.List.{List, [], ◌∷◌, append_assoc}
 use native.Mathlib.Numerals.{towards_suc}
 use native.Mathlib.Omega.{arith}
@@ -20,7 +20,7 @@ octets_of c e = e
 pub returns-then-i-list : goal.returns-then-i-list
 returns-then-i-list c =
     let a = c.args in
-    let four : c.copy_from_slice.new.self ≡ fours (a.c ∷ []) = c.copy_from_slice.ensures.after ∙ octets_of a.c c.to_le_bytes-octets.ensures in
+    let four : c.copy_from_slice.new.self ≡ fours (a.c ∷ []) = c.copy_from_slice.ensures.after ∙ rw c.to_le_bytes-octets.ensures (octets_of a.c refl) in
     let count : a.i + 4 - a.i ≡ length (fours (a.c ∷ [])) = omega (arith, fours-length (a.c ∷ [])) in
     let room : a.i + length (fours (a.c ∷ [])) ≤ length a.list.now = omega (arith, fours-length (a.c ∷ []), c.if-i-list.true) in
     rw (four, count, drop-drop) (sym (rw append_assoc at (sets-eq (fours (a.c ∷ [])) a.list.now a.i room)))

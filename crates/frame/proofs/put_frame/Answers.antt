@@ -54,7 +54,7 @@ module _ (info : List ℕ) (opening closing : ℕ) (out first : List ℕ) (h : (
 pub put_content-requires : goal.put_content-requires
 put_content-requires c =
     let a = c.args in
-    ready_less _ (size a.info.now) (room a.info.now a.opening a.closing a.out.now c.fill.new.self c.requires (c.fill.ensures.after (λ y e. e))) (omega arith)
+    (c.fcs_of-check.ensures, ready_less _ (size a.info.now) (room a.info.now a.opening a.closing a.out.now c.fill.new.self c.requires (c.fill.ensures.after (λ y e. e))) (omega arith))
 
 pub put_flags-requires : goal.put_flags-requires
 put_flags-requires c =

@@ -1,18 +1,29 @@
--- `strike::put_rest` meets its contract: a run laid over the middle of the output.
+-- `strike::put_rest` meets its contract. The loop's invariant: of the octets to be put, those from i on are left.
 -- Assumes nothing.
-use Prim.Native.Nat.{◌+◌, ◌-◌}
-use mathlib.Core.Path.{◌≡◌, sym, ◌∙◌}
 use native.Mathlib.Omega.{arith}
-use lib.ListN.{length, take, drop, length-drop}
-use lib.Seq.{sets-eq}
-use mathlib.Core.List.{append_assoc}
-use Rattle.std.proofs.lemmas.List.{take_rest, drop-drop}
+use lib.ListN.{drop_of_length-le}
+use Rattle.octets.proofs.Laws.{drop_next}
+use Rattle.strike.proofs.Copying.{lays_none, lays_turn, lays_room, lays_all}
 use Rattle.strike.proofs.put_rest.Goals as goal
 
+pub loop-i-init : goal.loop-i-init
+loop-i-init c = (omega arith, lays_none _ _ _)
+
+pub bounds-out-at : goal.bounds-out-at
+bounds-out-at c =
+    lays_room _ c.loop-i.invariant.1 (drop_next c.args.s.now c.loop-i.i c.loop-i-test.true) c.requires.1
+
+pub overflow_add-at : goal.overflow_add-at
+overflow_add-at c =
+    let room = lays_room _ c.loop-i.invariant.1 (drop_next c.args.s.now c.loop-i.i c.loop-i-test.true) c.requires.1 in
+    omega arith
+
+pub loop-i-preserved : goal.loop-i-preserved
+loop-i-preserved c =
+    (omega arith, lays_turn _ c.loop-i.invariant.1 (drop_next c.args.s.now c.loop-i.i c.loop-i-test.true))
+
+pub shape_of-out : goal.shape_of-out
+shape_of-out c = c.loop-i.invariant.1.room
+
 pub returns : goal.returns
-returns c =
-    let a = c.args in
-    let n = length-drop a.from a.s.now in
-    let rest : c.copy_from_slice.new.self ≡ drop a.from a.s.now = c.copy_from_slice.ensures.after ∙ take_rest a.s.now a.from in
-    let count : a.to + length (take (length a.s.now - a.from) (drop a.from a.s.now)) - a.to ≡ length (drop a.from a.s.now) = rw (take_rest a.s.now a.from) (omega arith) in
-    (omega arith, rw (count, rest, drop-drop) (sym (rw append_assoc at (sets-eq (drop a.from a.s.now) a.out.now a.to c.requires.1))))
+returns c = lays_all c.loop-i.invariant.1 (drop_of_length-le c.args.s.now c.loop-i-test.false)

@@ -32,21 +32,18 @@ module _ (info : List ℕ) (f : ℕ) (check : List ℕ) (quill : Quill) (low : f
 pub put_octets-last-requires : goal.put_octets-last-requires
 put_octets-last-requires c =
     let a = c.args in
-    let f = c.fcs_of in
-    let k = c.to_le_bytes-check in
-    marked_front (parts a.info.now f.result k.result a.self.now f.type_inv f.ensures k.ensures c.requires) (all a.info.now f.result k.result a.self.now f.type_inv f.ensures k.ensures c.requires)
+    let k = c.to_le_bytes-octets in
+    marked_front (parts a.info.now a.check k.result a.self.now c.ranges.check.fits c.requires.0 k.ensures c.requires.1) (all a.info.now a.check k.result a.self.now c.ranges.check.fits c.requires.0 k.ensures c.requires.1)
 
 pub put_octets-requires : goal.put_octets-requires
 put_octets-requires c =
     let a = c.args in
-    let f = c.fcs_of in
-    let k = c.to_le_bytes-check in
-    marked_front (splits_end (bits k.result)) (last a.info.now f.result k.result a.self.now f.type_inv f.ensures k.ensures c.requires c.put_octets-last.ensures)
+    let k = c.to_le_bytes-octets in
+    marked_front (splits_end (bits k.result)) (last a.info.now a.check k.result a.self.now c.ranges.check.fits c.requires.0 k.ensures c.requires.1 c.put_octets-last.ensures)
 
 pub returns : goal.returns
 returns c =
     let a = c.args in
-    let f = c.fcs_of in
-    let k = c.to_le_bytes-check in
-    let x = last a.info.now f.result k.result a.self.now f.type_inv f.ensures k.ensures c.requires c.put_octets-last.ensures in
+    let k = c.to_le_bytes-octets in
+    let x = last a.info.now a.check k.result a.self.now c.ranges.check.fits c.requires.0 k.ensures c.requires.1 c.put_octets-last.ensures in
     rw left_none at (marked_end (marked_turn (splits_end (bits k.result)) x c.put_octets.ensures)).puts

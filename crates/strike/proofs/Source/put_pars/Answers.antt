@@ -1,11 +1,15 @@
 -- `strike::Source::put_pars` meets its contract. The loop's invariant: all but what the positions that are left give was put (`Counting`).
 -- Assumes nothing.
-use mathlib.Core.Path.{◌∙◌}
+use mathlib.Core.Path.{◌∙◌, sym}
 use native.Mathlib.Omega.{arith}
 use Rattle.tree.specs.declared.Level.TheVariants.{Top}
 use Rattle.tree.proofs.Giving.{given_all}
-use Rattle.strike.proofs.Going.{pars_stepped, counting_all, counting_end, counting_low, counting_fine, counting_room, counting_turn}
+use Rattle.strike.proofs.Going.{pars_none, pars_stepped, counting_all, counting_end, counting_low, counting_fine, counting_room, counting_turn}
 use Rattle.strike.proofs.Source.put_pars.Goals as goal
+
+pub returns-then-octet_or_zero-mark : goal.returns-then-octet_or_zero-mark
+returns-then-octet_or_zero-mark c = let a = c.args in
+    pars_none a.self.keep a.branch.base a.branch.places a.self.s.now a.e (sym c.octet_or_zero.ensures ∙ c.if-octet_or_zero-mark.true ∙ c.mark.ensures) a.out.now a.start
 
 pub loop-q-init : goal.loop-q-init
 loop-q-init c = let a = c.args in
