@@ -55,7 +55,7 @@ pub enum Keep {
 }
 
 // The named NPar positions of the block that stands under a code: Tables 5-1, 5-3, 6-1 and 6-3 to 6-10. No call in the machine code:
-// with one, striking takes 3 % more instructions, and a field's frame 112 octets more of stack.
+// with one, striking takes 3 % more instructions, and 936 octets less of code.
 #[tactic(auto, using(crate::proofs::Blocks::mask_none), unfolding(crate::specs::Masks::mask_of, crate::specs::Named::printed_under, crate::proofs::Blocks::Apart))]
 #[inline(always)]
 fn npar_names(under: u32) -> u32
